@@ -1,0 +1,2 @@
+-- The refusals' numbers. Assumes nothing.
+pub mod Number

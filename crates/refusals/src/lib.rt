@@ -1,0 +1,37 @@
+// The refusals of document 01 ("When the bench says no"), each with its number. Later requests add their cases here.
+ghost use mathlib.Core.Path.{_≡_};
+ghost use Rattle.refusals.specs.Number.{numberOf};
+
+pub enum Refusal {
+    // The window's end lies above 2^64.
+    WindowEnd,
+    // A 257th descriptor would be read.
+    DescriptorCount,
+    // A descriptor's address is no multiple of 8, or its 16 bytes do not all lie in the window.
+    DescriptorAddress,
+    // A block does not lie wholly in the window.
+    BlockOutside,
+    // The lengths add up to more than 16,777,216.
+    TotalLength,
+    // The lengths add up to 0.
+    TotalZero,
+    // No start is free for the total.
+    NoPlace,
+}
+
+impl Refusal {
+    // The number that document 01 names.
+    pub fn number(self) -> u32
+        ensures { λ r. ⌜ r ≡ numberOf self ⌝ }
+    {
+        match self {
+            Refusal::WindowEnd => 1,
+            Refusal::DescriptorCount => 2,
+            Refusal::DescriptorAddress => 3,
+            Refusal::BlockOutside => 4,
+            Refusal::TotalLength => 5,
+            Refusal::TotalZero => 6,
+            Refusal::NoPlace => 7,
+        }
+    }
+}
