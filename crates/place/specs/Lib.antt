@@ -1,0 +1,4 @@
+-- The place for the gathered blocks. Assumes nothing.
+pub mod Place
+pub mod Law
+pub mod Search
