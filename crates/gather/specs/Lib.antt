@@ -1,0 +1,3 @@
+-- Gathering a scattered capsule. Assumes nothing.
+pub mod Gather
+pub mod Copy
