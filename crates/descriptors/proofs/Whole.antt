@@ -9,6 +9,7 @@ use borrow.Author.Tests.{ltb-false, eqb-true}
 use lib.Dec.{leb, eqb}
 use lib.ListN.{length, getD, take, length-take}
 use lib.Seq.{getD-take}
+use Rattle.refusals.specs.Number.{numberOf}
 use Rattle.refusals.specs.declared.Refusal.{Refusal}
 use Rattle.refusals.specs.declared.Refusal.the-variants.{WindowEnd, DescriptorAddress, BlockOutside, TotalLength}
 use Rattle.descriptors.specs.Window.{pastEnd, within}
@@ -98,6 +99,40 @@ found w B a t ds e =
       readable = g .0;
       total = omega (arith, g .1);
     }
+
+-- a list is refused by the numbers 1 to 5 alone
+Early : Reading → Type 0
+Early (refused n) = numberOf n ≤ 5
+Early (whole t ds) = Unit
+
+early-after : (d : ℕ) (X : Reading) → Early X → Early (after d X)
+unfolding Early after
+early-after d (refused n) h = h
+early-after d (whole t ds) h = tt
+
+early-rest : (l : ℕ) (w : List ℕ) (B a t len adr : ℕ) → ((b s : ℕ) → Early (walk l w B b s)) → Early (rest l w B a t len adr)
+unfolding Early jumpTo dataBlock
+early-rest l w B a t len adr on =
+    by-cond Early (eqb len 0) (jumpTo adr t (λ b. walk l w B b t)) (dataBlock B (length w) adr len t (walk l w B (a + 16)))
+    (λ _. by-cond Early (eqb adr 0) (whole t []) (walk l w B adr t) (λ _. tt) (λ _. on adr t))
+    (λ _.
+    by-cond Early (within B (length w) adr len) (cond (leb (t + len) totalLimit) (walk l w B (a + 16) (t + len)) (refused TotalLength)) (refused BlockOutside)
+    (λ _. by-cond Early (leb (t + len) totalLimit) (walk l w B (a + 16) (t + len)) (refused TotalLength) (λ _. on (a + 16) (t + len)) (λ _. omega arith))
+    (λ _. omega arith))
+
+early-walk : (l : ℕ) (w : List ℕ) (B a t : ℕ) → Early (walk l w B a t)
+unfolding walk Early
+early-walk zero w B a t = omega arith
+early-walk (suc l) w B a t =
+    by-cond Early (descriptorFits B (length w) a) (after a (rest l w B a t (lengthOf w B a) (addressOf w B a))) (refused DescriptorAddress)
+    (λ _. early-after a (rest l w B a t (lengthOf w B a) (addressOf w B a)) (early-rest l w B a t (lengthOf w B a) (addressOf w B a) (λ b s. early-walk l w B b s)))
+    (λ _. omega arith)
+
+pub refused-early : (w : List ℕ) (B a : ℕ) (n : Refusal) → reading w B a ≡ refused n → numberOf n ≤ 5
+unfolding reading Early
+refused-early w B a n e =
+    subst Early e
+    (by-cond Early (pastEnd B (length w)) (refused WindowEnd) (walk 256 w B a 0) (λ _. omega arith) (λ _. early-walk 256 w B a 0))
 
 -- the answer and the array decide the reading
 pub was-refused : (X : Reading) (k : ℕ) (old new : List ℕ) (r : Read) (n : Refusal) → Kept X k old new r → r ≡ Refused n → X ≡ refused n

@@ -45,7 +45,7 @@ block-length w B d h =
     length-take-le (lengthOf w B d) (drop (addressOf w B d - B) w)
     (⊎-elim (λ z. omega arith) (λ z. let g = h .block z in simp length-drop (omega arith)) (le-or-lt (lengthOf w B d) 0))
 
-blocks-length : (w : List ℕ) (B : ℕ) (ds : List ℕ) → AllReadable w B ds (length ds) → length (blocks w B ds) ≡ lengths w B ds
+pub blocks-length : (w : List ℕ) (B : ℕ) (ds : List ℕ) → AllReadable w B ds (length ds) → length (blocks w B ds) ≡ lengths w B ds
 unfolding blocks lengths
 blocks-length w B [] h = refl
 blocks-length w B (d ∷ ds) h =

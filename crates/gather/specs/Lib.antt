@@ -1,3 +1,4 @@
 -- Gathering a scattered capsule. Assumes nothing.
 pub mod Gather
+pub mod Law
 pub mod Copy

@@ -1,0 +1,31 @@
+-- What `gathered` is proved to mean, said without any search or any list of cases (proofs/Law.antt), in the words of document 01 and of
+-- demand 2. Names as in specs/Gather.antt. Assumes nothing.
+use Prim.Native.Nat.{ℕ, _+_, _-_, _≤_, _<_}
+use mathlib.Core.List.{List}
+use mathlib.Core.Logic.{_⊎_}
+use mathlib.Core.Path.{_≡_}
+use lib.ListN.{length, getD}
+use Rattle.descriptors.specs.Reading.{whole, reading}
+use Rattle.place.specs.Law.{LowestFree, NoneFree}
+use Rattle.gather.specs.Gather.{blocks}
+
+-- success: "the blocks, in list order, at the lowest place that shares no byte with a block or a descriptor read, changes nothing else"
+pub record Succeeded (w : List ℕ) (B first p total : ℕ) (afterwards : List ℕ) : Type 0 where
+  pub descriptors : List ℕ
+  pub read : reading w B first ≡ whole total descriptors
+  pub some : 0 < total
+  pub lowest : LowestFree w B total descriptors p
+  pub size : length (blocks w B descriptors) ≡ total
+  -- the bytes of the window afterwards: as many, those at the place the blocks', every other as it was
+  pub length-kept : length afterwards ≡ length w
+  pub at-place : (k : ℕ) → k < total → getD afterwards (p - B + k) 0 ≡ getD (blocks w B descriptors) k 0
+  pub outside : (i : ℕ) → (i < p - B) ⊎ (p - B + total ≤ i) → getD afterwards i 0 ≡ getD w i 0
+
+-- 7: "says no room only where no such place exists"
+pub record HadNoPlace (w : List ℕ) (B first : ℕ) (afterwards : List ℕ) : Type 0 where
+  pub total : ℕ
+  pub descriptors : List ℕ
+  pub read : reading w B first ≡ whole total descriptors
+  pub some : 0 < total
+  pub none : NoneFree w B total descriptors
+  pub unchanged : afterwards ≡ w

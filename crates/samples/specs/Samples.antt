@@ -1,0 +1,61 @@
+-- The starred samples of document 01 ("Samples on the rail"), as one table under a single claim. A sample of another kind is one more
+-- constructor of `Sample` and one more line of `holds`. Assumes nothing.
+use Prim.Native.Nat.{ℕ, _-_, _^_}
+use mathlib.Core.Bool.{Bool, true, false, _&&_}
+use mathlib.Core.List.{List, [], _∷_}
+use mathlib.Core.Path.{_≡_, refl}
+use lib.Dec.{eqb}
+use Rattle.fields.specs.Number.{le, bytes, put}
+use Rattle.refusals.specs.Number.{numberOf}
+use Rattle.descriptors.specs.Window.{within}
+use Rattle.descriptors.specs.Reading.{lengthOf, addressOf, descriptorFits, after, jumpTo, dataBlock, walk, reading}
+use Rattle.place.specs.Place.{apart, clearOf, clearOfAll, free, lowest, placeFor}
+use Rattle.gather.specs.Gather.{block, blocks, placed, finished, gathered}
+use Rattle.gather.specs.declared.Gathered.{Gathered}
+use Rattle.gather.specs.declared.Gathered.the-variants.{Refused, Placed}
+use Rattle.samples.specs.Windows.{descriptors, window}
+
+-- what a sample says of gathering: the place's address and the total, or the refusal's number
+pub data Expected : Type 0 where
+  place : (address total : ℕ) → Expected
+  refusal : (number : ℕ) → Expected
+
+unfoldable pub agrees : Gathered → Expected → Bool
+agrees (Refused n) (refusal m) = eqb (numberOf n) m
+agrees (Refused n) (place a t) = false
+agrees (Placed b u) (refusal m) = false
+agrees (Placed b u) (place a t) = eqb b a && eqb u t
+
+pub data Sample : Type 0 where
+  -- the descriptors at the window's start, and what gathering from there answers
+  gathering : List (ℕ × ℕ) → Expected → Sample
+
+unfoldable pub holds : Sample → Bool
+unfolding agrees window gathered
+holds (gathering ds expected) = agrees (gathered (window ds) 0x1000 0x1000 .0) expected
+
+unfoldable pub all : List Sample → Bool
+all [] = true
+all (s ∷ ss) = holds s && all ss
+
+abbrev pub table : List Sample
+table =
+    -- 1. 4 bytes at 0x1040, 3 at 0x1050
+    gathering ((4, 0x1040) ∷ (3, 0x1050) ∷ []) (place 0x1030 7)
+    -- 2. 4 and 12
+    ∷ gathering ((4, 0x1040) ∷ (12, 0x1050) ∷ []) (place 0x1030 16)
+    -- 3. 4 and 13
+    ∷ gathering ((4, 0x1040) ∷ (13, 0x1050) ∷ []) (place 0x105D 17)
+    -- 4. first block at 0x0FFF; at 0x10FC, 4 bytes; at 0x10FD
+    ∷ gathering ((4, 0x0FFF) ∷ (3, 0x1050) ∷ []) (refusal 4)
+    ∷ gathering ((4, 0x10FC) ∷ (3, 0x1050) ∷ []) (place 0x1030 7)
+    ∷ gathering ((4, 0x10FD) ∷ (3, 0x1050) ∷ []) (refusal 4)
+    -- 5. jump to itself. 6. end alone. 7. length 2^64 - 1 at 0x1040
+    ∷ gathering ((0, 0x1000) ∷ []) (refusal 2)
+    ∷ gathering [] (refusal 6)
+    ∷ gathering ((2 ^ 64 - 1, 0x1040) ∷ []) (refusal 4)
+    ∷ []
+
+pub samples : all table ≡ true
+unfolding all holds agrees window descriptors bytes le put within lengthOf addressOf descriptorFits after jumpTo dataBlock walk reading apart clearOf clearOfAll free lowest placeFor block blocks placed finished gathered
+samples = refl
