@@ -2,3 +2,4 @@
 pub mod Window
 pub mod Reading
 pub mod Scratch
+pub mod Law

@@ -1,5 +1,5 @@
--- What the reader answers and leaves in its scratch array of descriptor addresses: how the crates above go on from it.
--- Nothing here is needed to read an entry's promise. Assumes nothing.
+-- What `read_list` answers and leaves in its scratch array of descriptor addresses, and how the crates above go on from it. The
+-- promise of the entry `gather` needs none of this. Assumes nothing.
 use Prim.Native.Nat.{ℕ, _+_, _≤_, _<_}
 use mathlib.Core.List.{List, [], _∷_, _++_}
 use mathlib.Core.Path.{_≡_}

@@ -7,7 +7,7 @@ ghost use Prim.Native.Nat.{_+_, _-_, _^_, _≤_};
 ghost use mathlib.Core.Bool.{not};
 ghost use lib.ListN.{length};
 ghost use Rattle.descriptors.specs.Window.{pastEnd, within};
-ghost use Rattle.descriptors.specs.Reading.{descriptorFits, jumpTo, walk, reading};
+ghost use Rattle.descriptors.specs.Reading.{descriptorFits, jumpOrEnd, walk, reading};
 ghost use Rattle.descriptors.specs.Scratch.{Kept};
 
 // How many descriptors are read at most, jumps and the end included.
@@ -109,7 +109,7 @@ fn jump(
     ds: &mut [u64; DESCRIPTOR_LIMIT],
 ) -> Read
     requires { ⌜ (left ≤ 256) × (total ≤ 16777216) × (base + length (now w) ≤ 2 ^ 64) × (length (now ds) ≡ 256) ⌝ }
-    ensures { λ r. ⌜ Kept (jumpTo address total (λ next. walk left (now (w .entry)) base next total)) (256 - left) (now (ds .entry)) (now (ds .exit)) r ⌝ }
+    ensures { λ r. ⌜ Kept (jumpOrEnd address total (λ next. walk left (now (w .entry)) base next total)) (256 - left) (now (ds .entry)) (now (ds .exit)) r ⌝ }
 {
     if address == 0 {
         let count = DESCRIPTOR_LIMIT - left;

@@ -14,6 +14,6 @@ unfoldable pub bytes : ℕ → ℕ → List ℕ
 bytes zero v = []
 bytes (suc n) v = v % 256 ∷ bytes n (v / 256)
 
--- s with xs from i on in place of as many bytes; every other byte as it was
+-- s with xs from i on in place of as many bytes, where they fit; every other byte as it was
 unfoldable pub put : List ℕ → ℕ → List ℕ → List ℕ
 put s i xs = take i s ++ xs ++ drop (i + length xs) s

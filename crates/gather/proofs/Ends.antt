@@ -6,28 +6,28 @@ use Prim.Native.Nat.{ℕ, _+_, _-_}
 use native.Mathlib.Omega.{arith}
 use borrow.Author.Tests.{eq-eqb, ne-eqb}
 use Rattle.fields.specs.Number.{put}
+use Rattle.refusals.specs.Number.{numberOf}
 use Rattle.refusals.specs.declared.Refusal.{Refusal}
 use Rattle.refusals.specs.declared.Refusal.the-variants.{TotalZero, NoPlace}
 use Rattle.descriptors.specs.Reading.{Reading, refused, whole, reading}
 use Rattle.place.specs.Place.{placeFor}
 use Rattle.place.specs.declared.Place.the-variants.{At, Nowhere}
-use Rattle.gather.specs.Gather.{blocks, placed, finished, gathered}
-use Rattle.gather.specs.declared.Gathered.the-variants.{Refused, Placed}
+use Rattle.gather.specs.Gather.{refusal, place, blocks, copiedTo, finished, gathered}
 
 module _ (w : List ℕ) (B t : ℕ) (ds : List ℕ) where
-  pub total-zero : t ≡ 0 → (Refused TotalZero, w) ≡ finished w B (whole t ds)
+  pub total-zero : t ≡ 0 → (refusal (numberOf TotalZero), w) ≡ finished w B (whole t ds)
   unfolding finished
   total-zero e = rw (eq-eqb t 0 e)
 
-  pub no-place : (t ≡ 0 → ⊥) → placeFor w B t ds ≡ Nowhere → (Refused NoPlace, w) ≡ finished w B (whole t ds)
-  unfolding finished placed
+  pub no-place : (t ≡ 0 → ⊥) → placeFor w B t ds ≡ Nowhere → (refusal (numberOf NoPlace), w) ≡ finished w B (whole t ds)
+  unfolding finished copiedTo
   no-place z e = rw (ne-eqb t 0 z, e)
 
-  pub at-place : (p : ℕ) → (t ≡ 0 → ⊥) → placeFor w B t ds ≡ At p → (Placed p t, put w (p - B) (blocks w B ds)) ≡ finished w B (whole t ds)
-  unfolding finished placed
+  pub at-place : (p : ℕ) → (t ≡ 0 → ⊥) → placeFor w B t ds ≡ At p → (place p t, put w (p - B) (blocks w B ds)) ≡ finished w B (whole t ds)
+  unfolding finished copiedTo
   at-place p z e = rw (ne-eqb t 0 z, e)
 
-pub list-refused : (w : List ℕ) (B a : ℕ) (n : Refusal) → reading w B a ≡ refused n → (Refused n, w) ≡ gathered w B a
+pub list-refused : (w : List ℕ) (B a : ℕ) (n : Refusal) → reading w B a ≡ refused n → (refusal (numberOf n), w) ≡ gathered w B a
 unfolding gathered finished
 list-refused w B a n e = rw e
 

@@ -1,84 +1,80 @@
--- What `gathered` gives is what document 01 says (specs/Law.antt). Assumes nothing.
-use mathlib.Core.Path.{_≡_, refl, sym, ap, subst, _∙_}
+-- What `gathered` gives is what document 01 says (specs/Law.antt), and it gives it wherever document 01 says so. Assumes nothing.
+use mathlib.Core.Path.{_≡_, refl, sym, ap, _∙_}
 use mathlib.Core.Bool.{Bool, true, false, cond}
 use mathlib.Core.List.{List}
-use mathlib.Core.Logic.{_⊎_, inl, inr, ⊎-elim}
 use Prim.Native.Nat.{ℕ, _+_, _-_, _≤_, _<_}
 use native.Mathlib.Omega.{arith}
-use borrow.Author.Tests.{eqb-false}
+use borrow.Author.Tests.{eqb-false, ne-eqb}
 use lib.Dec.{eqb}
-use lib.ListN.{length, getD}
+use lib.ListN.{length}
 use Rattle.fields.specs.Number.{put}
-use Rattle.fields.proofs.Tests.{le-or-lt}
+use Rattle.fields.proofs.Tests.{positive}
 use Rattle.fields.proofs.Put.{put-length, put-inside, put-outside}
-use Rattle.refusals.specs.declared.Refusal.{Refusal}
 use Rattle.refusals.specs.Number.{numberOf}
+use Rattle.refusals.specs.declared.Refusal.{Refusal}
 use Rattle.refusals.specs.declared.Refusal.the-variants.{TotalZero, NoPlace}
 use Rattle.descriptors.specs.Reading.{Reading, refused, whole, reading}
+use Rattle.descriptors.specs.Law.{Faultless}
 use Rattle.descriptors.specs.Scratch.{lengths}
-use Rattle.descriptors.proofs.Whole.{found, refused-early}
+use Rattle.descriptors.proofs.Whole.{found, refused-early, whole-law, law-whole}
 use Rattle.place.specs.Place.{placeFor}
+use Rattle.place.specs.Law.{LowestFree, NoneFree}
 use Rattle.place.specs.declared.Place.{Place}
 use Rattle.place.specs.declared.Place.the-variants.{At, Nowhere}
-use Rattle.place.proofs.Law.{place-law, no-place-law}
-use Rattle.gather.specs.Gather.{blocks, placed, finished, gathered}
+use Rattle.place.proofs.Law.{place-law, no-place-law, law-place, law-no-place}
+use Rattle.gather.specs.Gather.{Answer, refusal, place, blocks, copiedTo, finished, gathered}
 use Rattle.gather.specs.Law.{Succeeded, HadNoPlace}
-use Rattle.gather.specs.declared.Gathered.{Gathered}
-use Rattle.gather.specs.declared.Gathered.the-variants.{Refused, Placed}
 use Rattle.gather.proofs.Copy.{blocks-length}
+use Rattle.gather.proofs.Ends.{total-zero, no-place, at-place, list-whole}
 
 abbrev Outcome : Type 0
-Outcome = Gathered × List ℕ
+Outcome = Answer × List ℕ
 
 -- the two parts of an outcome
 parts : (x y : Outcome) → x ≡ y → (x .0 ≡ y .0) × (x .1 ≡ y .1)
-parts x y e = (ap {B = Gathered} (λ (z : Outcome). z .0) e, ap {B = List ℕ} (λ (z : Outcome). z .1) e)
+parts x y e = (ap {B = Answer} (λ (z : Outcome). z .0) e, ap {B = List ℕ} (λ (z : Outcome). z .1) e)
 
-not-placed : (n : Refusal) (w w′ : List ℕ) (p t : ℕ) → _≡_ {A = Outcome} (Refused n, w) (Placed p t, w′) → ⊥
+not-placed : (n : ℕ) (w w′ : List ℕ) (p t : ℕ) → _≡_ {A = Outcome} (refusal n, w) (place p t, w′) → ⊥
 not-placed n w w′ p t x =
-    let a = parts (Refused n, w) (Placed p t, w′) x .0 in
+    let a = parts (refusal n, w) (place p t, w′) x .0 in
     let z : _≡_ {A = ℕ} 0 1 = cc in
     omega arith
 
-not-refused : (n : Refusal) (w w′ : List ℕ) (p t : ℕ) → _≡_ {A = Outcome} (Placed p t, w) (Refused n, w′) → ⊥
+not-refused : (n : ℕ) (w w′ : List ℕ) (p t : ℕ) → _≡_ {A = Outcome} (place p t, w) (refusal n, w′) → ⊥
 not-refused n w w′ p t x =
-    let a = parts (Placed p t, w) (Refused n, w′) x .0 in
+    let a = parts (place p t, w) (refusal n, w′) x .0 in
     let z : _≡_ {A = ℕ} 0 1 = cc in
     omega arith
 
 -- a refusal's number and window
-same-refusal : (n m : Refusal) (w w′ : List ℕ) → _≡_ {A = Outcome} (Refused n, w) (Refused m, w′) → (numberOf n ≡ numberOf m) × (w ≡ w′)
+same-refusal : (n m : ℕ) (w w′ : List ℕ) → _≡_ {A = Outcome} (refusal n, w) (refusal m, w′) → (n ≡ m) × (w ≡ w′)
 same-refusal n m w w′ x =
-    let a = parts (Refused n, w) (Refused m, w′) x in
-    let b : Refused n ≡ Refused m = a .0 in
-    let e : n ≡ m = cc in
-    (ap numberOf e, a .1)
-
-positive : (n : ℕ) → (n ≡ 0 → ⊥) → 0 < n
-positive n no-zero = ⊎-elim (λ z. absurd (no-zero (omega arith))) (λ h. h) (le-or-lt n 0)
+    let a = parts (refusal n, w) (refusal m, w′) x in
+    let b : refusal n ≡ refusal m = a .0 in
+    (cc, a .1)
 
 module _ (w : List ℕ) (B first : ℕ) where
   -- the four ways to an outcome
   data Way : Outcome → Type 0 where
-    list-refused : (n : Refusal) → reading w B first ≡ refused n → Way (Refused n, w)
-    total-zero : Way (Refused TotalZero, w)
-    no-place : (t : ℕ) (ds : List ℕ) → reading w B first ≡ whole t ds → 0 < t → placeFor w B t ds ≡ Nowhere → Way (Refused NoPlace, w)
-    at-place : (t : ℕ) (ds : List ℕ) (q : ℕ) → reading w B first ≡ whole t ds → 0 < t → placeFor w B t ds ≡ At q
-        → Way (Placed q t, put w (q - B) (blocks w B ds))
+    by-list : (n : Refusal) → reading w B first ≡ refused n → Way (refusal (numberOf n), w)
+    by-total : Way (refusal 6, w)
+    by-no-place : (t : ℕ) (ds : List ℕ) → reading w B first ≡ whole t ds → 0 < t → placeFor w B t ds ≡ Nowhere → Way (refusal 7, w)
+    by-place : (t : ℕ) (ds : List ℕ) (q : ℕ) → reading w B first ≡ whole t ds → 0 < t → placeFor w B t ds ≡ At q
+        → Way (place q t, put w (q - B) (blocks w B ds))
 
-  way-at : (t : ℕ) (ds : List ℕ) (X : Place) → reading w B first ≡ whole t ds → 0 < t → placeFor w B t ds ≡ X → Way (placed w B t ds X)
-  unfolding placed
-  way-at t ds (At q) r some e = at-place t ds q r some e
-  way-at t ds Nowhere r some e = no-place t ds r some e
+  way-at : (t : ℕ) (ds : List ℕ) (X : Place) → reading w B first ≡ whole t ds → 0 < t → placeFor w B t ds ≡ X → Way (copiedTo X w B t ds)
+  unfolding copiedTo
+  way-at t ds (At q) r some e = by-place t ds q r some e
+  way-at t ds Nowhere r some e = by-no-place t ds r some e
 
   way-of : (t : ℕ) (ds : List ℕ) (b : Bool) → reading w B first ≡ whole t ds → eqb t 0 ≡ b
-      → Way (cond b (Refused TotalZero, w) (placed w B t ds (placeFor w B t ds)))
-  way-of t ds true r e = total-zero
+      → Way (cond b (refusal (numberOf TotalZero), w) (copiedTo (placeFor w B t ds) w B t ds))
+  way-of t ds true r e = by-total
   way-of t ds false r e = way-at t ds (placeFor w B t ds) r (positive t (eqb-false t 0 e)) refl
 
   way-from : (X : Reading) → reading w B first ≡ X → Way (finished w B X)
   unfolding finished
-  way-from (refused n) r = list-refused n r
+  way-from (refused n) r = by-list n r
   way-from (whole t ds) r = way-of t ds (eqb t 0) r refl
 
   way : Way (gathered w B first)
@@ -89,13 +85,15 @@ module _ (w : List ℕ) (B first : ℕ) where
   success : (t : ℕ) (ds : List ℕ) (q : ℕ) → reading w B first ≡ whole t ds → 0 < t → placeFor w B t ds ≡ At q
       → Succeeded w B first q t (put w (q - B) (blocks w B ds))
   success t ds q r some e =
-      let f = found w B first t ds r in
+      let f = whole-law w B first t ds r in
+      let g = found w B first t ds r in
       let l = place-law w B t ds some q e in
-      let size : length (blocks w B ds) ≡ t = blocks-length w B ds (f .readable) ∙ sym (f .total) in
+      let size : length (blocks w B ds) ≡ t = blocks-length w B ds (g .readable) ∙ sym (g .total) in
       let fits : q - B + length (blocks w B ds) ≤ length w = omega (arith, l .free .low, l .free .high) in
       record {
         descriptors = ds;
-        read = r;
+        list = f .0;
+        sum = f .1;
         some = some;
         lowest = l;
         size = size;
@@ -104,42 +102,68 @@ module _ (w : List ℕ) (B first : ℕ) where
         outside = λ i o. put-outside w (q - B) (blocks w B ds) fits i (rw size o);
       }
 
-  moved : (q t p total : ℕ) (v w′ : List ℕ) → _≡_ {A = Outcome} (Placed q t, v) (Placed p total, w′) → Succeeded w B first q t v
+  moved : (q t p total : ℕ) (v w′ : List ℕ) → _≡_ {A = Outcome} (place q t, v) (place p total, w′) → Succeeded w B first q t v
       → Succeeded w B first p total w′
   moved q t p total v w′ x s =
-      let y = parts (Placed q t, v) (Placed p total, w′) x in
-      let a : Placed q t ≡ Placed p total = y .0 in
+      let y = parts (place q t, v) (place p total, w′) x in
+      let a : place q t ≡ place p total = y .0 in
       let b : v ≡ w′ = y .1 in
       let eq : q ≡ p = cc in
       let et : t ≡ total = cc in
       rw (← eq, ← et, ← b) s
 
-  by-success : (o : Outcome) (p total : ℕ) (w′ : List ℕ) → Way o → o ≡ (Placed p total, w′) → Succeeded w B first p total w′
-  by-success o p total w′ (list-refused n r) x = absurd (not-placed n w w′ p total x)
-  by-success o p total w′ total-zero x = absurd (not-placed TotalZero w w′ p total x)
-  by-success o p total w′ (no-place t ds r some e) x = absurd (not-placed NoPlace w w′ p total x)
-  by-success o p total w′ (at-place t ds q r some e) x = moved q t p total (put w (q - B) (blocks w B ds)) w′ x (success t ds q r some e)
+  if-placed : (o : Outcome) (p total : ℕ) (w′ : List ℕ) → Way o → o ≡ (place p total, w′) → Succeeded w B first p total w′
+  if-placed o p total w′ (by-list n r) x = absurd (not-placed (numberOf n) w w′ p total x)
+  if-placed o p total w′ by-total x = absurd (not-placed 6 w w′ p total x)
+  if-placed o p total w′ (by-no-place t ds r some e) x = absurd (not-placed 7 w w′ p total x)
+  if-placed o p total w′ (by-place t ds q r some e) x = moved q t p total (put w (q - B) (blocks w B ds)) w′ x (success t ds q r some e)
 
-  pub success-law : (p total : ℕ) (w′ : List ℕ) → gathered w B first ≡ (Placed p total, w′) → Succeeded w B first p total w′
-  success-law p total w′ x = by-success (gathered w B first) p total w′ way x
+  -- a place is answered only so
+  pub success-law : (p total : ℕ) (w′ : List ℕ) → gathered w B first ≡ (place p total, w′) → Succeeded w B first p total w′
+  success-law p total w′ x = if-placed (gathered w B first) p total w′ way x
 
-  by-7 : (o : Outcome) (w′ : List ℕ) → Way o → o ≡ (Refused NoPlace, w′) → HadNoPlace w B first w′
-  by-7 o w′ (list-refused n r) x = absurd (omega (arith, same-refusal n NoPlace w w′ x .0, refused-early w B first n r))
-  by-7 o w′ total-zero x = absurd (omega (arith, same-refusal TotalZero NoPlace w w′ x .0))
-  by-7 o w′ (no-place t ds r some e) x =
-      record { total = t; descriptors = ds; read = r; some = some; none = no-place-law w B t ds some e; unchanged = sym (same-refusal NoPlace NoPlace w w′ x .1) }
-  by-7 o w′ (at-place t ds q r some e) x = absurd (not-refused NoPlace (put w (q - B) (blocks w B ds)) w′ q t x)
+  if-7 : (o : Outcome) (w′ : List ℕ) → Way o → o ≡ (refusal 7, w′) → HadNoPlace w B first w′
+  if-7 o w′ (by-list n r) x = absurd (omega (arith, same-refusal (numberOf n) 7 w w′ x .0, refused-early w B first n r))
+  if-7 o w′ by-total x = absurd (omega (arith, same-refusal 6 7 w w′ x .0))
+  if-7 o w′ (by-no-place t ds r some e) x =
+      let f = whole-law w B first t ds r in
+      let none : NoneFree w B t ds = no-place-law w B t ds some e in
+      record {
+        descriptors = ds;
+        list = f .0;
+        some = rw (f .1) at some;
+        none = rw (f .1) at none;
+        unchanged = sym (same-refusal 7 7 w w′ x .1);
+      }
+  if-7 o w′ (by-place t ds q r some e) x = absurd (not-refused 7 (put w (q - B) (blocks w B ds)) w′ q t x)
 
-  -- 7 only where no place exists
-  pub refusal-7-law : (w′ : List ℕ) → gathered w B first ≡ (Refused NoPlace, w′) → HadNoPlace w B first w′
-  refusal-7-law w′ x = by-7 (gathered w B first) w′ way x
+  -- 7 is answered only where no place exists
+  pub refusal-7-law : (w′ : List ℕ) → gathered w B first ≡ (refusal 7, w′) → HadNoPlace w B first w′
+  refusal-7-law w′ x = if-7 (gathered w B first) w′ way x
 
-  by-refusal : (o : Outcome) (n : Refusal) (w′ : List ℕ) → Way o → o ≡ (Refused n, w′) → w′ ≡ w
-  by-refusal o n w′ (list-refused m r) x = sym (same-refusal m n w w′ x .1)
-  by-refusal o n w′ total-zero x = sym (same-refusal TotalZero n w w′ x .1)
-  by-refusal o n w′ (no-place t ds r some e) x = sym (same-refusal NoPlace n w w′ x .1)
-  by-refusal o n w′ (at-place t ds q r some e) x = absurd (not-refused n (put w (q - B) (blocks w B ds)) w′ q t x)
+  if-refused : (o : Outcome) (n : ℕ) (w′ : List ℕ) → Way o → o ≡ (refusal n, w′) → w′ ≡ w
+  if-refused o n w′ (by-list m r) x = sym (same-refusal (numberOf m) n w w′ x .1)
+  if-refused o n w′ by-total x = sym (same-refusal 6 n w w′ x .1)
+  if-refused o n w′ (by-no-place t ds r some e) x = sym (same-refusal 7 n w w′ x .1)
+  if-refused o n w′ (by-place t ds q r some e) x = absurd (not-refused n (put w (q - B) (blocks w B ds)) w′ q t x)
 
   -- a refusal "changes no byte of what was lent to it" (demand 1)
-  pub refusal-law : (n : Refusal) (w′ : List ℕ) → gathered w B first ≡ (Refused n, w′) → w′ ≡ w
-  refusal-law n w′ x = by-refusal (gathered w B first) n w′ way x
+  pub refusal-law : (n : ℕ) (w′ : List ℕ) → gathered w B first ≡ (refusal n, w′) → w′ ≡ w
+  refusal-law n w′ x = if-refused (gathered w B first) n w′ way x
+
+  -- and back: a faultless list is refused by 6 where its total is 0, else gathered at its lowest free start, else refused by 7
+  module _ (ds : List ℕ) (f : Faultless w B first ds) where
+    abbrev t : ℕ
+    t = lengths w B ds
+
+    from-list : finished w B (whole t ds) ≡ gathered w B first
+    from-list = list-whole w B first (whole t ds) (law-whole w B first ds f)
+
+    pub law-refusal-6 : t ≡ 0 → gathered w B first ≡ (refusal 6, w)
+    law-refusal-6 z = sym (total-zero w B t ds z ∙ from-list)
+
+    pub law-success : 0 < t → (p : ℕ) → LowestFree w B t ds p → gathered w B first ≡ (place p t, put w (p - B) (blocks w B ds))
+    law-success some p l = sym (at-place w B t ds p (λ z. absurd (omega arith)) (law-place w B t ds some p l) ∙ from-list)
+
+    pub law-refusal-7 : 0 < t → NoneFree w B t ds → gathered w B first ≡ (refusal 7, w)
+    law-refusal-7 some none = sym (no-place w B t ds (λ z. absurd (omega arith)) (law-no-place w B t ds some none) ∙ from-list)

@@ -1,31 +1,32 @@
--- What `gathered` is proved to mean, said without any search or any list of cases (proofs/Law.antt), in the words of document 01 and of
+-- What `gathered` is proved to mean, said without the walk and without the search (proofs/Law.antt), in the words of document 01 and of
 -- demand 2. Names as in specs/Gather.antt. Assumes nothing.
 use Prim.Native.Nat.{ℕ, _+_, _-_, _≤_, _<_}
 use mathlib.Core.List.{List}
 use mathlib.Core.Logic.{_⊎_}
 use mathlib.Core.Path.{_≡_}
 use lib.ListN.{length, getD}
-use Rattle.descriptors.specs.Reading.{whole, reading}
+use Rattle.descriptors.specs.Law.{Faultless}
+use Rattle.descriptors.specs.Scratch.{lengths}
 use Rattle.place.specs.Law.{LowestFree, NoneFree}
 use Rattle.gather.specs.Gather.{blocks}
 
 -- success: "the blocks, in list order, at the lowest place that shares no byte with a block or a descriptor read, changes nothing else"
 pub record Succeeded (w : List ℕ) (B first p total : ℕ) (afterwards : List ℕ) : Type 0 where
   pub descriptors : List ℕ
-  pub read : reading w B first ≡ whole total descriptors
+  pub list : Faultless w B first descriptors
+  pub sum : total ≡ lengths w B descriptors
   pub some : 0 < total
   pub lowest : LowestFree w B total descriptors p
   pub size : length (blocks w B descriptors) ≡ total
-  -- the bytes of the window afterwards: as many, those at the place the blocks', every other as it was
+  -- the window afterwards: as long as before, at the place the blocks' bytes, every other byte as it was
   pub length-kept : length afterwards ≡ length w
   pub at-place : (k : ℕ) → k < total → getD afterwards (p - B + k) 0 ≡ getD (blocks w B descriptors) k 0
   pub outside : (i : ℕ) → (i < p - B) ⊎ (p - B + total ≤ i) → getD afterwards i 0 ≡ getD w i 0
 
 -- 7: "says no room only where no such place exists"
 pub record HadNoPlace (w : List ℕ) (B first : ℕ) (afterwards : List ℕ) : Type 0 where
-  pub total : ℕ
   pub descriptors : List ℕ
-  pub read : reading w B first ≡ whole total descriptors
-  pub some : 0 < total
-  pub none : NoneFree w B total descriptors
+  pub list : Faultless w B first descriptors
+  pub some : 0 < lengths w B descriptors
+  pub none : NoneFree w B (lengths w B descriptors) descriptors
   pub unchanged : afterwards ≡ w

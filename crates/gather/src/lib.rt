@@ -1,5 +1,5 @@
 // Gathering a capsule that lies scattered in a memory window (document 01, "The window and the scattered list").
-// Base entry: `gather`. Refusals 1 to 7.
+// The entry is `gather`: refusals 1 to 7.
 use descriptors::DESCRIPTOR_LIMIT;
 use descriptors::Read;
 use descriptors::read_list;
@@ -16,10 +16,10 @@ ghost use Rattle.fields.specs.Number.{put};
 ghost use Rattle.descriptors.specs.Reading.{whole, lengthOf};
 ghost use Rattle.descriptors.specs.Scratch.{AllReadable, lengths};
 ghost use Rattle.place.specs.Place.{free};
-ghost use Rattle.gather.specs.Gather.{block, blocks, finished, gathered};
+ghost use Rattle.gather.specs.Gather.{answerOf, block, blocks, finished, gathered};
 ghost use Rattle.gather.specs.Copy.{Ready};
 
-// The place's address and the total, or the refusal.
+// The place's address and how many bytes stand there; or the refusal.
 pub enum Gathered {
     Refused(Refusal),
     Placed { address: u64, total: u64 },
@@ -78,7 +78,7 @@ fn finish(
 ) -> Gathered
     requires { ⌜ (count ≤ 256) × (length (now ds) ≡ 256) × AllReadable (now w) base (now ds) count
         × (total ≡ lengths (now w) base (take count (now ds))) × (base + length (now w) ≤ 2 ^ 64) ⌝ }
-    ensures { λ r. ⌜ (r, now (w .exit)) ≡ finished (now (w .entry)) base (whole total (take count (now (ds .entry)))) ⌝ }
+    ensures { λ r. ⌜ (answerOf r, now (w .exit)) ≡ finished (now (w .entry)) base (whole total (take count (now (ds .entry)))) ⌝ }
 {
     if total == 0 {
         return Gathered::Refused(Refusal::TotalZero);
@@ -97,7 +97,7 @@ fn finish(
 // the address `base` on. On success the blocks stand, in list order, at the place answered, and every other byte is as it
 // was; on a refusal every byte is as it was.
 pub fn gather(w: &mut [u8], base: u64, first: u64) -> Gathered
-    ensures { λ r. ⌜ (r, now (w .exit)) ≡ gathered (now (w .entry)) base first ⌝ }
+    ensures { λ r. ⌜ (answerOf r, now (w .exit)) ≡ gathered (now (w .entry)) base first ⌝ }
 {
     let mut ds = [0u64; DESCRIPTOR_LIMIT];
     let read = read_list(w, base, first, &mut ds);

@@ -86,14 +86,20 @@ module _ (w : List ℕ) (B t : ℕ) (ds : List ℕ) where
     unfolding placeFor
     no-place-law e q f = not-free q (found-none (free w B t ds) (suc (length w)) B e q (f .low) (omega (arith, f .high))) f
 
-    -- and back: a start that is free, below which none is, is the place
+    -- a start that is not free fails the test
+    go-false : (j : ℕ) (b : Bool) → free w B t ds j ≡ b → (Free w B t ds j → ⊥) → free w B t ds j ≡ false
+    go-false j true e none = absurd (none (free-law j e))
+    go-false j false e none = e
+
+    -- and back: where no start is free none is found
+    pub law-no-place : NoneFree w B t ds → placeFor w B t ds ≡ Nowhere
+    unfolding placeFor
+    law-no-place none = lowest-none (free w B t ds) (suc (length w)) B (λ j le. go-false j (free w B t ds j) refl (none j))
+
+    -- a start that is free, below which none is, is the place
     pub law-place : (p : ℕ) → LowestFree w B t ds p → placeFor w B t ds ≡ At p
     unfolding placeFor
     law-place p l =
         let f = l .free in
         lowest-at (free w B t ds) (suc (length w)) B p (f .low) (omega (arith, f .high)) (law-free p f)
-        (λ j le lt. go j (free w B t ds j) refl (l .none-lower j lt))
-      where
-        go : (j : ℕ) (b : Bool) → free w B t ds j ≡ b → (Free w B t ds j → ⊥) → free w B t ds j ≡ false
-        go j true e none = absurd (none (free-law j e))
-        go j false e none = e
+        (λ j le lt. go-false j (free w B t ds j) refl (l .none-lower j lt))

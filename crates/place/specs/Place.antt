@@ -1,7 +1,7 @@
 -- The place chosen for the gathered blocks (document 01, "The window and the scattered list"): "The place chosen is the lowest start
 -- whose range, as long as the total, lies in the window and shares no byte with any block or any descriptor read."
--- w is the window's bytes, B the address of the first, t the total and ds the addresses of the descriptors read. Every start is an
--- address, in whole numbers that never wrap. Assumes nothing.
+-- w is the window's bytes, B the address of the first, t the total, which is above 0 (6 comes first), ds the addresses of the
+-- descriptors read, and p a start: an address, in whole numbers that never wrap. Assumes nothing.
 use Prim.Native.Nat.{ℕ, zero, suc, _+_}
 use mathlib.Core.Bool.{Bool, true, false, cond, _&&_, _||_}
 use mathlib.Core.List.{List, [], _∷_}
@@ -25,15 +25,15 @@ unfoldable pub clearOfAll : List ℕ → ℕ → ℕ → ℕ → List ℕ → Bo
 clearOfAll w B t p [] = true
 clearOfAll w B t p (d ∷ ds) = clearOf w B t p d && clearOfAll w B t p ds
 
--- a start that may be chosen
+-- "whose range, as long as the total, lies in the window and shares no byte with any block or any descriptor read"
 unfoldable pub free : List ℕ → ℕ → ℕ → List ℕ → ℕ → Bool
 free w B t ds p = within B (length w) p t && clearOfAll w B t p ds
 
--- the lowest of the k starts from p up that passes the test
+-- the lowest of the k starts from p up that passes the test, if one does
 unfoldable pub lowest : ℕ → ℕ → (ℕ → Bool) → Place
 lowest zero p test = Nowhere
 lowest (suc k) p test = cond (test p) (At p) (lowest k (p + 1) test)
 
--- the lowest start from the window's first address to its end; no other lies in the window
+-- "the lowest start": of those from the window's first address to its end, since no other lies in the window
 unfoldable pub placeFor : List ℕ → ℕ → ℕ → List ℕ → Place
 placeFor w B t ds = lowest (suc (length w)) B (free w B t ds)

@@ -1,38 +1,31 @@
--- The starred samples of document 01 ("Samples on the rail"), as one table under a single claim. A sample of another kind is one more
--- constructor of `Sample` and one more line of `holds`. Assumes nothing.
+-- The starred samples of document 01 ("Samples on the rail") whose definitions stand, 1 to 7, as one table under a single claim. A sample
+-- of another kind joins as one more constructor of `Sample`, one more line of `holds` and its rows. Assumes nothing.
 use Prim.Native.Nat.{ℕ, _-_, _^_}
 use mathlib.Core.Bool.{Bool, true, false, _&&_}
 use mathlib.Core.List.{List, [], _∷_}
 use mathlib.Core.Path.{_≡_, refl}
 use lib.Dec.{eqb}
 use Rattle.fields.specs.Number.{le, bytes, put}
-use Rattle.refusals.specs.Number.{numberOf}
 use Rattle.descriptors.specs.Window.{within}
-use Rattle.descriptors.specs.Reading.{lengthOf, addressOf, descriptorFits, after, jumpTo, dataBlock, walk, reading}
+use Rattle.descriptors.specs.Reading.{lengthOf, addressOf, descriptorFits, withDescriptor, jumpOrEnd, dataBlock, walk, reading}
 use Rattle.place.specs.Place.{apart, clearOf, clearOfAll, free, lowest, placeFor}
-use Rattle.gather.specs.Gather.{block, blocks, placed, finished, gathered}
-use Rattle.gather.specs.declared.Gathered.{Gathered}
-use Rattle.gather.specs.declared.Gathered.the-variants.{Refused, Placed}
+use Rattle.gather.specs.Gather.{Answer, refusal, place, block, blocks, copiedTo, finished, gathered}
 use Rattle.samples.specs.Windows.{descriptors, window}
 
--- what a sample says of gathering: the place's address and the total, or the refusal's number
-pub data Expected : Type 0 where
-  place : (address total : ℕ) → Expected
-  refusal : (number : ℕ) → Expected
-
-unfoldable pub agrees : Gathered → Expected → Bool
-agrees (Refused n) (refusal m) = eqb (numberOf n) m
-agrees (Refused n) (place a t) = false
-agrees (Placed b u) (refusal m) = false
-agrees (Placed b u) (place a t) = eqb b a && eqb u t
+-- whether two answers are the same
+unfoldable pub same : Answer → Answer → Bool
+same (refusal n) (refusal m) = eqb n m
+same (refusal n) (place a t) = false
+same (place b u) (refusal m) = false
+same (place b u) (place a t) = eqb b a && eqb u t
 
 pub data Sample : Type 0 where
-  -- the descriptors at the window's start, and what gathering from there answers
-  gathering : List (ℕ × ℕ) → Expected → Sample
+  -- Length and Address of the descriptors at the window's start, and what gathering from there answers
+  gathering : List (ℕ × ℕ) → Answer → Sample
 
 unfoldable pub holds : Sample → Bool
-unfolding agrees window gathered
-holds (gathering ds expected) = agrees (gathered (window ds) 0x1000 0x1000 .0) expected
+unfolding same window gathered
+holds (gathering pairs answer) = same (gathered (window pairs) 0x1000 0x1000 .0) answer
 
 unfoldable pub all : List Sample → Bool
 all [] = true
@@ -57,5 +50,5 @@ table =
     ∷ []
 
 pub samples : all table ≡ true
-unfolding all holds agrees window descriptors bytes le put within lengthOf addressOf descriptorFits after jumpTo dataBlock walk reading apart clearOf clearOfAll free lowest placeFor block blocks placed finished gathered
+unfolding all holds same window descriptors bytes le put within lengthOf addressOf descriptorFits withDescriptor jumpOrEnd dataBlock walk reading apart clearOf clearOfAll free lowest placeFor block blocks copiedTo finished gathered
 samples = refl

@@ -4,13 +4,13 @@ use mathlib.Core.List.{List, [], _∷_, _++_}
 use lib.ListN.{take, replicate}
 use Rattle.fields.specs.Number.{bytes}
 
--- descriptors one behind the other, each its Length, then its Address
+-- descriptors one behind the other; of each pair Length, then Address
 unfoldable pub descriptors : List (ℕ × ℕ) → List ℕ
 unfolding bytes
 descriptors [] = []
-descriptors (d ∷ ds) = bytes 8 (d .0) ++ bytes 8 (d .1) ++ descriptors ds
+descriptors (pair ∷ pairs) = bytes 8 (pair .0) ++ bytes 8 (pair .1) ++ descriptors pairs
 
 -- the window of 256 bytes that begins with these descriptors; every other byte is 0, so that an end stands behind them
 unfoldable pub window : List (ℕ × ℕ) → List ℕ
 unfolding descriptors
-window ds = take 256 (descriptors ds ++ replicate 256 0)
+window pairs = take 256 (descriptors pairs ++ replicate 256 0)

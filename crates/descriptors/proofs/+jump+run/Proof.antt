@@ -10,7 +10,7 @@ use lib.ListN.{length, length-set}
 use borrow.Fn.Kinds.{In}
 use borrow.Fn.PlainCycle.{Measures, is, falls, and}
 use Rattle.refusals.specs.declared.Refusal.the-variants.{BlockOutside, TotalLength}
-use Rattle.descriptors.specs.Reading.{refused, walk, jumpTo, dataBlock, descriptorFits, totalLimit}
+use Rattle.descriptors.specs.Reading.{refused, walk, jumpOrEnd, dataBlock, descriptorFits, totalLimit}
 use Rattle.descriptors.specs.Scratch.{Kept}
 use Rattle.descriptors.proofs.Steps.{descriptor-ends, bad-address, went-on, ended, none-left, below, jumped-on}
 use Rattle.descriptors.proofs.jump.Reads as jump
@@ -144,7 +144,7 @@ run-returns-3 t c =
     let address = q .read642 in
     went-on (a .w .now) (a .base) (a .at) (a .total) (a .left) (a .ds .now) _ (f .before .before .if1 .left)
     _ (size .result) (address .result) (fits t f) (size .ensures) (address .ensures) (s .pre .1 .0) (s .pre .1 .3)
-    (jumpTo (address .result) (a .total) (λ next. walk (a .left - 1) (a .w .now) (a .base) next (a .total)))
+    (jumpOrEnd (address .result) (a .total) (λ next. walk (a .left - 1) (a .w .now) (a .base) next (a .total)))
     (rw (eq-eqb _ _ (c .before .before .if3 .taken)))
     (c .jump .ensures)
 
