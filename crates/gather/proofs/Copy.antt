@@ -45,17 +45,17 @@ block-length w B d h =
     length-take-le (lengthOf w B d) (drop (addressOf w B d - B) w)
     (⊎-elim (λ z. omega arith) (λ z. let g = h .block z in simp length-drop (omega arith)) (le-or-lt (lengthOf w B d) 0))
 
-pub blocks-length : (w : List ℕ) (B : ℕ) (ds : List ℕ) → AllReadable w B ds (length ds) → length (blocks w B ds) ≡ lengths w B ds
-unfolding blocks lengths
-blocks-length w B [] h = refl
-blocks-length w B (d ∷ ds) h =
-    omega (arith, length-append (block w B d) (blocks w B ds), block-length w B d (h 0 (omega arith)), blocks-length w B ds (λ i lt. h (suc i) (omega arith)))
-
 blocks-more : (w : List ℕ) (B : ℕ) (xs : List ℕ) (d : ℕ) → blocks w B (xs ++ (d ∷ [])) ≡ blocks w B xs ++ block w B d
 unfolding blocks
 blocks-more w B [] d = append-nil (block w B d)
 blocks-more w B (x ∷ xs) d =
     ap (λ (l : List ℕ). block w B x ++ l) (blocks-more w B xs d) ∙ sym (append-assoc (block w B x) (blocks w B xs) (block w B d))
+
+pub blocks-length : (w : List ℕ) (B : ℕ) (ds : List ℕ) → AllReadable w B ds (length ds) → length (blocks w B ds) ≡ lengths w B ds
+unfolding blocks lengths
+blocks-length w B [] h = refl
+blocks-length w B (d ∷ ds) h =
+    omega (arith, length-append (block w B d) (blocks w B ds), block-length w B d (h 0 (omega arith)), blocks-length w B ds (λ i lt. h (suc i) (omega arith)))
 
 blocks-front : (w : List ℕ) (B : ℕ) (ds : List ℕ) (i : ℕ) → length (blocks w B (take i ds)) ≤ length (blocks w B ds)
 unfolding blocks
