@@ -1,0 +1,123 @@
+// The tests of a capsule's header, of one offset and of one payload, and an item's place in the body.
+// Each is of headers and offsets: no byte of an image is read. The functions with a `requires` serve the crates above,
+// which have tested what they ask.
+ghost use mathlib.Core.Path.{_≡_};
+ghost use mathlib.Core.Bool.{true};
+ghost use Prim.Native.Nat.{_+_, _*_, _<_, _≤_};
+ghost use lib.ListN.{length};
+ghost use Rattle.capsule_format.specs.Header.{sizesRight, flagsRight, guidRight};
+ghost use Rattle.capsule_format.specs.Payload.{versionRight, headerLength, payloadRight};
+ghost use Rattle.capsule_format.specs.Body.{items, offset, offsetRight, bodyRight, itemEnd};
+
+const FMP_GUID: [u8; 16] = [
+    0xed, 0xd5, 0xcb, 0x6d, 0x2d, 0xe8, 0x44, 0x4c, 0xbd, 0xa1, 0x71, 0x94, 0x19, 0x9a, 0xd9, 0x2a,
+];
+
+// Refusal 11: HeaderSize at both ends, and CapsuleImageSize against the length given.
+pub fn sizes_right(s: &[u8]) -> bool
+    requires { ⌜ 28 ≤ length (now s) ⌝ }
+    ensures { λ r. ⌜ r ≡ sizesRight (now (s .entry)) ⌝ }
+{
+    let header = fields::read32(s, 16);
+    let size = fields::read32(s, 24);
+    if header < 28 {
+        return false;
+    }
+    if size < header {
+        return false;
+    }
+    (size as usize) == s.len()
+}
+
+// Refusal 12: the flag rule.
+pub fn flags_right(flags: u32) -> bool
+    ensures { λ r. ⌜ r ≡ flagsRight flags ⌝ }
+{
+    if flags / 0x0004_0000 % 2 != 1 {
+        return true;
+    }
+    flags / 0x0001_0000 % 2 == 1
+}
+
+// Refusal 13: the GUID of firmware management capsules.
+pub fn guid_right(s: &[u8]) -> bool
+    requires { ⌜ 28 ≤ length (now s) ⌝ }
+    ensures { λ r. ⌜ r ≡ guidRight (now (s .entry)) ⌝ }
+{
+    let guid = FMP_GUID;
+    fields::same_guid(s, 0, &guid, 0)
+}
+
+// Whether a payload header has this version.
+fn version_right(version: u32) -> bool
+    ensures { λ r. ⌜ r ≡ versionRight version ⌝ }
+{
+    if version == 1 {
+        return true;
+    }
+    version == 2
+}
+
+// The length of a payload header of this version.
+pub fn header_length(version: u32) -> usize
+    ensures { λ r. ⌜ r ≡ headerLength version ⌝ }
+{
+    if version == 1 {
+        return 32;
+    }
+    40
+}
+
+// Refusal 15, for one item: the header's version, and that header, image and vendor code fit. Both sizes are widened
+// before they are added.
+pub fn payload_right(p: &[u8]) -> bool
+    ensures { λ r. ⌜ r ≡ payloadRight (now (p .entry)) ⌝ }
+{
+    if p.len() < 32 {
+        return false;
+    }
+    let version = fields::read32(p, 0);
+    if !version_right(version) {
+        return false;
+    }
+    let image = fields::read32(p, 24) as usize;
+    let vendor = fields::read32(p, 28) as usize;
+    header_length(version) + image + vendor <= p.len()
+}
+
+// Refusal 14, for one offset of n, in a body that holds the list.
+pub fn offset_right(b: &[u8], n: usize, k: usize) -> bool
+    requires { ⌜ (n ≡ items (now b)) × (n ≤ 64) × (k < n) × (8 + 8 * n ≤ length (now b)) ⌝ }
+    ensures { λ r. ⌜ r ≡ offsetRight (now (b .entry)) k ⌝ }
+{
+    let at = fields::read64(b, 8 + 8 * k) as usize;
+    if at < 8 + 8 * n {
+        return false;
+    }
+    if b.len() <= at {
+        return false;
+    }
+    if k == 0 {
+        return true;
+    }
+    (fields::read64(b, 8 * k) as usize) < at
+}
+
+// Where item k of n starts in the body.
+pub fn item_start(b: &[u8], n: usize, k: usize) -> usize
+    requires { ⌜ (bodyRight (now b) ≡ true) × (n ≡ items (now b)) × (k < n) ⌝ }
+    ensures { λ r. ⌜ r ≡ offset (now (b .entry)) k ⌝ }
+{
+    fields::read64(b, 8 + 8 * k) as usize
+}
+
+// Where item k of n ends in the body.
+pub fn item_end(b: &[u8], n: usize, k: usize) -> usize
+    requires { ⌜ (bodyRight (now b) ≡ true) × (n ≡ items (now b)) × (k < n) ⌝ }
+    ensures { λ r. ⌜ r ≡ itemEnd (now (b .entry)) k ⌝ }
+{
+    if k + 1 < n {
+        return item_start(b, n, k + 1);
+    }
+    b.len()
+}
