@@ -14,6 +14,13 @@ use Rattle.fields.proofs.Tests.{both, no-true, le-or-lt}
 use Rattle.capsule_format.specs.Body.{all, bodyVersion, drivers, payloads, items, offset, listEnd, rises, offsetRight, bodyRight, itemEnd}
 
 -- ---- each number below a count
+pub all-none : (p : ℕ → Bool) → all p 0 ≡ true
+unfolding all
+all-none p = refl
+
+pub all-whole : (p : ℕ → Bool) (k n : ℕ) → all p k ≡ true → k ≡ n → true ≡ all p n
+all-whole p k n e q = sym (ap (all p) (sym q) ∙ e)
+
 pub all-more : (p : ℕ → Bool) (n : ℕ) → all p n ≡ true → p n ≡ true → all p (n + 1) ≡ true
 unfolding all
 all-more p n e f = rw add-one (rw (e, f))

@@ -5,7 +5,7 @@ ghost use mathlib.Core.Path.{_≡_};
 ghost use mathlib.Core.Bool.{true};
 ghost use Prim.Native.Nat.{_+_, _*_, _<_, _≤_};
 ghost use lib.ListN.{length};
-ghost use Rattle.capsule_format.specs.Header.{sizesRight, flagsRight, guidRight};
+ghost use Rattle.capsule_format.specs.Header.{sizesRight, flagsRight, guidRight, body};
 ghost use Rattle.capsule_format.specs.Payload.{versionRight, headerLength, payloadRight};
 ghost use Rattle.capsule_format.specs.Body.{items, offset, offsetRight, bodyRight, itemEnd};
 
@@ -46,6 +46,15 @@ pub fn guid_right(s: &[u8]) -> bool
 {
     let guid = FMP_GUID;
     fields::same_guid(s, 0, &guid, 0)
+}
+
+// The body.
+pub fn body_of(s: &[u8]) -> &[u8]
+    requires { ⌜ sizesRight (now s) ≡ true ⌝ }
+    ensures { λ r. ⌜ now r ≡ body (now (s .entry)) ⌝ }
+{
+    let at = fields::read32(s, 16) as usize;
+    &s[at..]
 }
 
 // Whether a payload header has this version.

@@ -1,0 +1,64 @@
+-- The definition of an item's place, at each way out, and what it says of the capsule. Assumes nothing.
+use mathlib.Core.Path.{_≡_, refl, sym, ap, _∙_}
+use mathlib.Core.Bool.{Bool, true, false}
+use mathlib.Core.List.{List}
+use Prim.Native.Nat.{ℕ, _+_, _-_, _<_, _≤_}
+use native.Mathlib.Omega.{arith}
+use borrow.Author.Tests.{ltb-true, ltb-false, lt-ltb, le-ltb}
+use lib.Dec.{ltb}
+use lib.ListN.{length, take, drop}
+use lib.Seq.{drop-drop}
+use Rattle.refusals.specs.declared.Refusal.{Refusal}
+use Rattle.refusals.specs.declared.Refusal.the-variants.{NoItem}
+use Rattle.capsule_format.specs.Header.{headerSize, body}
+use Rattle.capsule_format.specs.Payload.{payloadRight}
+use Rattle.capsule_format.specs.Body.{part, drivers, payloads, items, offset, itemEnd, payloadAt, payloadsRight}
+use Rattle.capsule_format.specs.Body.{item as itemBytes}
+use Rattle.capsule_format.proofs.Header.{header-in, body-length}
+use Rattle.capsule_format.proofs.Body.{all-at, item-in}
+use Rattle.capsule_check.specs.Verdict.{unless, after, verdict, judged}
+use Rattle.capsule_check.specs.Item.{itemStartIn, itemEndIn, kind, found, located}
+use Rattle.capsule_check.specs.declared.Verdict.{Verdict}
+use Rattle.capsule_check.specs.declared.Verdict.the-variants.{Faultless}
+use Rattle.capsule_check.specs.declared.Verdict.the-variants as Verdict
+use Rattle.capsule_check.specs.declared.Item.{Item}
+use Rattle.capsule_check.specs.declared.Item.the-variants.{Driver, Payload, Refused}
+use Rattle.capsule_check.proofs.Faultless.{faultless, Sound}
+
+module _ (s : List ℕ) (k : ℕ) where
+  pub located-refused : (r : Refusal) → verdict s ≡ Verdict.Refused r → located s k ≡ Refused r
+  unfolding located judged
+  located-refused r e = rw e
+
+  pub located-none : verdict s ≡ Faultless → items (body s) ≤ k → located s k ≡ Refused NoItem
+  unfolding located judged
+  located-none e h = rw (e, le-ltb k (items (body s)) h)
+
+  pub located-driver : verdict s ≡ Faultless → k < items (body s) → k < drivers (body s) → located s k ≡ Driver (itemStartIn s k) (itemEndIn s k)
+  unfolding located judged
+  located-driver e h d = rw (e, lt-ltb k (items (body s)) h, lt-ltb k (drivers (body s)) d)
+
+  pub located-payload : verdict s ≡ Faultless → k < items (body s) → drivers (body s) ≤ k → located s k ≡ Payload (itemStartIn s k) (itemEndIn s k)
+  unfolding located judged
+  located-payload e h d = rw (e, lt-ltb k (items (body s)) h, le-ltb k (drivers (body s)) d)
+
+-- where an item of a faultless capsule lies
+pub record Inside (s : List ℕ) (a e : ℕ) : Type 0 where
+  pub some : a < e
+  pub within : e ≤ length s
+
+module _ (s : List ℕ) (k : ℕ) (sound : Sound s) (lt : k < items (body s)) where
+  pub item-inside : Inside s (itemStartIn s k) (itemEndIn s k)
+  unfolding itemStartIn itemEndIn
+  item-inside =
+      let i = item-in (body s) (sound .offsets) k lt in
+      record { some = omega arith; within = omega (arith, body-length s (sound .sizes)) }
+
+  -- its bytes are the item's
+  pub item-is : part s (itemStartIn s k) (itemEndIn s k) ≡ itemBytes (body s) k
+  unfolding itemStartIn itemEndIn itemBytes body
+  item-is =
+      let h = headerSize s in
+      let b = drop h s in
+      let n : h + itemEnd b k - (h + offset b k) ≡ itemEnd b k - offset b k = omega arith in
+      rw (n, drop-drop (offset b k) h s)
