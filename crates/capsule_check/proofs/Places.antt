@@ -62,3 +62,64 @@ module _ (s : List ℕ) (k : ℕ) (sound : Sound s) (lt : k < items (body s)) wh
       let b = drop h s in
       let n : h + itemEnd b k - (h + offset b k) ≡ itemEnd b k - offset b k = omega arith in
       rw (n, drop-drop (offset b k) h s)
+
+-- ---- the definition, turned round: what an answer says of the capsule
+-- the verdict that an answer carries
+abbrev pub told : Item → Verdict
+told (Driver a e) = Faultless
+told (Payload a e) = Faultless
+told (Refused r) = Verdict.Refused r
+
+pub told-judged : (s : List ℕ) (k : ℕ) → told (located s k) ≡ judged s k
+unfolding located
+told-judged s k = go (judged s k) (ltb k (drivers (body s)))
+  where
+    go : (v : Verdict) (d : Bool) → told (found v (kind d (itemStartIn s k) (itemEndIn s k))) ≡ v
+    go Faultless true = refl
+    go Faultless false = refl
+    go (Verdict.Refused r) d = refl
+
+-- what holds of an item that was found: it lies in the capsule, and a payload is right
+pub Holds : List ℕ → Item → Type 0
+Holds s (Driver a e) = Inside s a e
+Holds s (Payload a e) = Inside s a e × (payloadRight (part s a e) ≡ true)
+Holds s (Refused r) = Unit
+
+payload-right : (s : List ℕ) (k : ℕ) → Sound s → k < items (body s) → drivers (body s) ≤ k → payloadRight (part s (itemStartIn s k) (itemEndIn s k)) ≡ true
+unfolding payloadsRight payloadAt
+payload-right s k sound lt low =
+    let b = body s in
+    let j = k - drivers b in
+    let e : drivers b + j ≡ k = omega arith in
+    rw (item-is s k sound lt) (rw e at (all-at (payloadAt b) (payloads b) j (sound .payloads) (omega arith)))
+
+pub holds : (s : List ℕ) (k : ℕ) → Holds s (located s k)
+unfolding located judged Holds
+holds s k = go (verdict s) refl
+  where
+    kinds : Sound s → k < items (body s) → (d : Bool) → ltb k (drivers (body s)) ≡ d → Holds s (kind d (itemStartIn s k) (itemEndIn s k))
+    kinds sound lt true q = item-inside s k sound lt
+    kinds sound lt false q = (item-inside s k sound lt, payload-right s k sound lt (ltb-false k (drivers (body s)) q))
+
+    numbers : Sound s → (t : Bool) → ltb k (items (body s)) ≡ t
+        → Holds s (found (unless t NoItem Faultless) (kind (ltb k (drivers (body s))) (itemStartIn s k) (itemEndIn s k)))
+    numbers sound true q = kinds sound (ltb-true k (items (body s)) q) (ltb k (drivers (body s))) refl
+    numbers sound false q = tt
+
+    go : (v : Verdict) → verdict s ≡ v
+        → Holds s (found (after v (unless (ltb k (items (body s))) NoItem Faultless)) (kind (ltb k (drivers (body s))) (itemStartIn s k) (itemEndIn s k)))
+    go Faultless e = numbers (faultless s e) (ltb k (items (body s))) refl
+    go (Verdict.Refused r) e = tt
+
+module _ (s : List ℕ) (k a e : ℕ) where
+  pub driver-inside : located s k ≡ Driver a e → Inside s a e
+  unfolding Holds
+  driver-inside q = rw q at (holds s k)
+
+  pub payload-inside : located s k ≡ Payload a e → Inside s a e
+  unfolding Holds
+  payload-inside q = (rw q at (holds s k)) .0
+
+  pub payload-holds : located s k ≡ Payload a e → payloadRight (part s a e) ≡ true
+  unfolding Holds
+  payload-holds q = (rw q at (holds s k)) .1

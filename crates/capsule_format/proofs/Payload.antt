@@ -38,6 +38,10 @@ module _ (p : List ℕ) where
   payload-fits e =
       leb-true (vendorCodeEnd p) (length p) (both (versionRight (version p)) (leb (vendorCodeEnd p) (length p)) e .1)
 
+  -- so it has 32 bytes of header
+  pub first-header : payloadRight p ≡ true → 32 ≤ length p
+  first-header e = omega (arith, payload-fits e, header-ends (version p) .0)
+
   -- a right payload whose version is not 1 has 40 bytes of header
   pub second-header : payloadRight p ≡ true → (version p ≡ 1 → ⊥) → 40 ≤ length p
   second-header e ne = omega (arith, payload-fits e, longer (version p) ne)
