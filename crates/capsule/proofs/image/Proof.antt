@@ -67,7 +67,7 @@ returns : tie.Need-returns
 returns c = rw (found (c .before .before)) (c .part-of .ensures)
 
 returns-2 : tie.Need-returns-2
-returns-2 c = 
+returns-2 c =
     let e = c .before in
     let b = e .before in
     let p = b .before in

@@ -106,7 +106,7 @@ add-end : tie.Need-add-end
 add-end c = let s = c .before .before .before .before .before .before .before .before in omega (arith, end-is c, placed (c .before .before) .within, s .good)
 
 returns-2 : tie.Need-returns-2
-returns-2 c = 
+returns-2 c =
     let i = c .before in
     let d = i .before .before .before in
     let s = d .before .before .before .before .before in
@@ -114,7 +114,7 @@ returns-2 c =
     (sym (located-driver (s .args .s .now) (s .args .k) (s .pre) (counted (i .before .before)) (omega (arith, counts d))))
 
 returns-3 : tie.Need-returns-3
-returns-3 c = 
+returns-3 c =
     let i = c .before in
     let d = i .before .before .before in
     let s = d .before .before .before .before .before in
