@@ -1,16 +1,11 @@
--- The values that are shown of an item of a capsule s, i being where it lies or the refusal, and of the capsule itself
+-- The values that are shown of an item of a capsule s, i being where it lies or the refusal
 -- (document 01, "The capsule": "Type GUID, index and instance are shown too: version 1 shows instance 0, a driver or a
 -- refusal all zeros."). Assumes nothing.
 use Prim.Native.Nat.{ℕ}
 use mathlib.Core.List.{List}
 use lib.ListN.{replicate}
-use Rattle.capsule_format.specs.Header.{body}
-use Rattle.capsule_format.specs.Body.{part, drivers, payloads}
-use Rattle.capsule_format.specs.Payload.{typeGuid, imageIndex, hardwareInstance}
-use Rattle.capsule_check.specs.Verdict.{verdict}
-use Rattle.capsule_check.specs.declared.Verdict.{Verdict}
-use Rattle.capsule_check.specs.declared.Verdict.the-variants.{Faultless}
-use Rattle.capsule_check.specs.declared.Verdict.the-variants as Verdict
+use Rattle.capsule_check.specs.Body.{part}
+use Rattle.capsule_check.specs.Payload.{typeGuid, imageIndex, hardwareInstance}
 use Rattle.capsule_check.specs.declared.Item.{Item}
 use Rattle.capsule_check.specs.declared.Item.the-variants.{Driver, Payload, Refused}
 
@@ -28,14 +23,3 @@ abbrev pub hardwareInstanceOf : List ℕ → Item → ℕ
 hardwareInstanceOf s (Driver a e) = 0
 hardwareInstanceOf s (Payload a e) = hardwareInstance (part s a e)
 hardwareInstanceOf s (Refused r) = 0
-
--- a count of a faultless capsule; 0 with a refusal
-abbrev pub countOf : Verdict → ℕ → ℕ
-countOf Faultless n = n
-countOf (Verdict.Refused r) n = 0
-
-unfoldable pub driverCount : List ℕ → ℕ
-driverCount s = countOf (verdict s) (drivers (body s))
-
-unfoldable pub payloadCount : List ℕ → ℕ
-payloadCount s = countOf (verdict s) (payloads (body s))

@@ -6,11 +6,11 @@ ghost use mathlib.Core.Path.{_≡_};
 ghost use mathlib.Core.Bool.{true};
 ghost use Prim.Native.Nat.{_≤_};
 ghost use lib.ListN.{length};
-ghost use Rattle.capsule_format.specs.Payload.{imageStart, imageEnd, vendorCodeEnd, payloadRight, imageIndex, hardwareInstance};
+ghost use Rattle.capsule_check.specs.Payload.{imageStart, imageEnd, vendorCodeEnd, payloadRight, imageIndex, hardwareInstance};
 ghost use Rattle.capsule_check.specs.Verdict.{judged};
 ghost use Rattle.capsule_check.specs.Item.{located};
 ghost use Rattle.capsule.specs.Parts.{IsPart, range, itemPart, imagePart, vendorCodePart};
-ghost use Rattle.capsule.specs.Shown.{typeGuidOf, imageIndexOf, hardwareInstanceOf, driverCount, payloadCount};
+ghost use Rattle.capsule.specs.Shown.{typeGuidOf, imageIndexOf, hardwareInstanceOf};
 
 // The sister of all entries that take an item number: the refusal, 10 to 16, or none.
 pub fn refusal(s: &[u8], k: usize) -> capsule_check::Verdict
@@ -49,7 +49,7 @@ fn image_start(p: &[u8]) -> usize
     requires { ⌜ payloadRight (now p) ≡ true ⌝ }
     ensures { λ r. ⌜ r ≡ imageStart (now (p .entry)) ⌝ }
 {
-    capsule_format::header_length(fields::read32(p, 0))
+    capsule_check::header_length(fields::read32(p, 0))
 }
 
 // Where it ends there; the vendor code follows.
@@ -153,26 +153,4 @@ fn instance_of(p: &[u8]) -> u64
         return 0;
     }
     fields::read64(p, 32)
-}
-
-// How many drivers a faultless capsule has; `capsule_check::check` tells a refused one, which answers 0.
-pub fn driver_count(s: &[u8]) -> usize
-    ensures { λ r. ⌜ r ≡ driverCount (now (s .entry)) ⌝ }
-{
-    let checked = capsule_check::check(s);
-    match checked {
-        capsule_check::Verdict::Faultless => fields::read16(capsule_format::body_of(s), 4) as usize,
-        capsule_check::Verdict::Refused(_) => 0,
-    }
-}
-
-// How many payloads, as above.
-pub fn payload_count(s: &[u8]) -> usize
-    ensures { λ r. ⌜ r ≡ payloadCount (now (s .entry)) ⌝ }
-{
-    let checked = capsule_check::check(s);
-    match checked {
-        capsule_check::Verdict::Faultless => fields::read16(capsule_format::body_of(s), 6) as usize,
-        capsule_check::Verdict::Refused(_) => 0,
-    }
 }

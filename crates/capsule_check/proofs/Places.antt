@@ -10,12 +10,12 @@ use lib.ListN.{length, take, drop}
 use lib.Seq.{drop-drop}
 use Rattle.refusals.specs.declared.Refusal.{Refusal}
 use Rattle.refusals.specs.declared.Refusal.the-variants.{NoItem}
-use Rattle.capsule_format.specs.Header.{headerSize, body}
-use Rattle.capsule_format.specs.Payload.{payloadRight}
-use Rattle.capsule_format.specs.Body.{part, drivers, payloads, items, offset, itemEnd, payloadAt, payloadsRight}
-use Rattle.capsule_format.specs.Body.{item as itemBytes}
-use Rattle.capsule_format.proofs.Header.{header-in, body-length}
-use Rattle.capsule_format.proofs.Body.{all-at, item-in}
+use Rattle.capsule_check.specs.Header.{headerSize, body}
+use Rattle.capsule_check.specs.Payload.{payloadRight}
+use Rattle.capsule_check.specs.Body.{part, drivers, payloads, items, offset, itemEnd, payloadAt, payloadsRight}
+use Rattle.capsule_check.specs.Body.{item as itemBytes}
+use Rattle.capsule_check.proofs.Header.{header-in, body-length}
+use Rattle.capsule_check.proofs.Body.{all-at, item-in}
 use Rattle.capsule_check.specs.Verdict.{unless, after, verdict, judged}
 use Rattle.capsule_check.specs.Item.{itemStartIn, itemEndIn, kind, found, located}
 use Rattle.capsule_check.specs.declared.Verdict.{Verdict}

@@ -6,7 +6,7 @@ use native.Mathlib.Omega.{arith}
 use borrow.Author.Tests.{le-leb, lt-leb, eq-eqb, ne-eqb}
 use lib.ListN.{length}
 use Rattle.fields.specs.Number.{le}
-use Rattle.capsule_format.specs.Body.{bodyVersion, drivers, payloads, items, bodyRight}
+use Rattle.capsule_check.specs.Body.{bodyVersion, drivers, payloads, items, bodyRight}
 use Rattle.capsule_check.proofs.body_right.Statement.{statement}
 use Rattle.capsule_check.proofs.body_right.Tie as tie
 

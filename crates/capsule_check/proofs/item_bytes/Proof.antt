@@ -4,8 +4,8 @@ use mathlib.Core.Path.{_≡_}
 use native.Mathlib.Omega.{arith}
 use Prim.Native.Nat.{ℕ, _<_, _≤_}
 use lib.ListN.{length}
-use Rattle.capsule_format.specs.Body.{offset, itemEnd, item}
-use Rattle.capsule_format.proofs.Body.{item-in}
+use Rattle.capsule_check.specs.Body.{offset, itemEnd, item}
+use Rattle.capsule_check.proofs.Body.{item-in}
 use Rattle.capsule_check.proofs.item_bytes.Statement.{statement}
 use Rattle.capsule_check.proofs.item_bytes.Tie as tie
 

@@ -6,8 +6,8 @@ use Prim.Native.Nat.{_-_, _≤_}
 use native.Mathlib.Omega.{arith}
 use borrow.Author.Tests.{not-true, not-false}
 use lib.ListN.{length}
-use Rattle.capsule_format.specs.Body.{all, items, offsetRight}
-use Rattle.capsule_format.proofs.Body.{all-none, all-more, all-fails, all-whole, list-outside}
+use Rattle.capsule_check.specs.Body.{all, items, offsetRight}
+use Rattle.capsule_check.proofs.Body.{all-none, all-more, all-fails, all-whole, list-outside}
 use Rattle.capsule_check.proofs.offsets_right.Statement.{statement}
 use Rattle.capsule_check.proofs.offsets_right.Tie as tie
 

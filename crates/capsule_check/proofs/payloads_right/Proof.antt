@@ -7,9 +7,9 @@ use Prim.Native.Nat.{ℕ, _+_, _-_, _≤_}
 use native.Mathlib.Omega.{arith}
 use borrow.Author.Tests.{not-true, not-false}
 use lib.ListN.{length}
-use Rattle.capsule_format.specs.Payload.{payloadRight}
-use Rattle.capsule_format.specs.Body.{all, drivers, payloads, item, payloadAt, payloadsRight}
-use Rattle.capsule_format.proofs.Body.{all-none, all-more, all-fails, all-whole, list-fits, few-items}
+use Rattle.capsule_check.specs.Payload.{payloadRight}
+use Rattle.capsule_check.specs.Body.{all, drivers, payloads, item, payloadAt, payloadsRight}
+use Rattle.capsule_check.proofs.Body.{all-none, all-more, all-fails, all-whole, list-fits, few-items}
 use Rattle.capsule_check.proofs.payloads_right.Statement.{statement}
 use Rattle.capsule_check.proofs.payloads_right.Tie as tie
 
