@@ -9,7 +9,7 @@ ghost use Rattle.capsule_check.specs.Header.{sizesRight, flagsRight, gui
 ghost use Rattle.capsule_check.specs.Payload.{versionRight, headerLength, payloadRight};
 ghost use Rattle.capsule_check.specs.Body.{all, items, offset, offsetRight, bodyRight, itemEnd, payloadsRight};
 ghost use Rattle.capsule_check.specs.Body.{item as itemBytes};
-ghost use Rattle.capsule_check.specs.Verdict.{verdict};
+ghost use Rattle.capsule_check.specs.Verdict.{verdict, verdictNumber};
 ghost use Rattle.capsule_check.specs.Item.{located};
 ghost use Rattle.capsule_check.specs.Count.{driverCount, payloadCount};
 
@@ -17,6 +17,18 @@ ghost use Rattle.capsule_check.specs.Count.{driverCount, payloadCount};
 pub enum Verdict {
     Faultless,
     Refused(refusals::Refusal),
+}
+
+impl Verdict {
+    // The refusal's number, or 0 for none.
+    pub fn number(self) -> u32
+        ensures { λ r. ⌜ r ≡ verdictNumber self ⌝ }
+    {
+        match self {
+            Verdict::Faultless => 0,
+            Verdict::Refused(r) => r.number(),
+        }
+    }
 }
 
 // An item, by its start and its end in the capsule; or why there is none.
