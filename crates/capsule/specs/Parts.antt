@@ -25,23 +25,23 @@ pub record IsPart (s r : RefT (List ℕ)) (p : Range) : Type 0 where
   pub place : ptr r .1 ≡ ptr s .1 + p .start
 
 -- "Where there is one, the part answered is the empty part at the capsule's start."
-abbrev pub nothing : Range
-nothing = range 0 0
+abbrev pub none : Range
+none = range 0 0
 
 -- the whole item, of either kind
 abbrev pub itemPart : Item → Range
 itemPart (Driver a e) = range a e
 itemPart (Payload a e) = range a e
-itemPart (Refused r) = nothing
+itemPart (Refused r) = none
 
 -- "the whole item for a driver, the image .. for a payload". "32 or 40 bytes, then the image"
 abbrev pub imagePart : List ℕ → Item → Range
 imagePart s (Driver a e) = range a e
 imagePart s (Payload a e) = range (a + imageStart (part s a e)) (a + imageEnd (part s a e))
-imagePart s (Refused r) = nothing
+imagePart s (Refused r) = none
 
 -- "A driver's vendor code is the empty part at its item's end." Of a payload: "the image, then the vendor code"
 abbrev pub vendorCodePart : List ℕ → Item → Range
 vendorCodePart s (Driver a e) = range e e
 vendorCodePart s (Payload a e) = range (a + imageEnd (part s a e)) (a + vendorCodeEnd (part s a e))
-vendorCodePart s (Refused r) = nothing
+vendorCodePart s (Refused r) = none

@@ -9,7 +9,7 @@ ghost use lib.ListN.{length};
 ghost use Rattle.capsule_check.specs.Payload.{imageStart, imageEnd, vendorCodeEnd, payloadRight, imageIndex, hardwareInstance};
 ghost use Rattle.capsule_check.specs.Verdict.{judged};
 ghost use Rattle.capsule_check.specs.Item.{located};
-ghost use Rattle.capsule.specs.Parts.{IsPart, range, itemPart, imagePart, vendorCodePart};
+ghost use Rattle.capsule.specs.Parts.{IsPart, range, none, itemPart, imagePart, vendorCodePart};
 ghost use Rattle.capsule.specs.Shown.{typeGuidOf, imageIndexOf, hardwareInstanceOf};
 
 // The sister of all entries that take an item number: the refusal, 10 to 16, or none.
@@ -32,6 +32,13 @@ fn part_of(s: &[u8], a: usize, e: usize) -> &[u8]
     &s[a..e]
 }
 
+// What a refusal hands out: the empty part at the capsule's start.
+fn nothing(s: &[u8]) -> &[u8]
+    ensures { λ r. ⌜ IsPart (s .entry) r none ⌝ }
+{
+    part_of(s, 0, 0)
+}
+
 // The whole item k.
 pub fn item(s: &[u8], k: usize) -> &[u8]
     ensures { λ r. ⌜ IsPart (s .entry) r (itemPart (located (now (s .entry)) k)) ⌝ }
@@ -40,7 +47,7 @@ pub fn item(s: &[u8], k: usize) -> &[u8]
     match found {
         capsule_check::Item::Driver { start, end } => part_of(s, start, end),
         capsule_check::Item::Payload { start, end } => part_of(s, start, end),
-        capsule_check::Item::Refused(_) => part_of(s, 0, 0),
+        capsule_check::Item::Refused(_) => nothing(s),
     }
 }
 
@@ -81,7 +88,7 @@ pub fn image(s: &[u8], k: usize) -> &[u8]
             let e = start + image_end(p);
             part_of(s, a, e)
         }
-        capsule_check::Item::Refused(_) => part_of(s, 0, 0),
+        capsule_check::Item::Refused(_) => nothing(s),
     }
 }
 
@@ -98,7 +105,7 @@ pub fn vendor_code(s: &[u8], k: usize) -> &[u8]
             let e = start + vendor_code_end(p);
             part_of(s, a, e)
         }
-        capsule_check::Item::Refused(_) => part_of(s, 0, 0),
+        capsule_check::Item::Refused(_) => nothing(s),
     }
 }
 

@@ -33,8 +33,8 @@ part-of-requires-2 c κs = let a = c .before .before .before .before .before .ar
 enum-told : tie.Need-enum-told
 enum-told c = search needs
 
-part-of-requires-3 : tie.Need-part-of-requires-3
-part-of-requires-3 c κs = search needs
+nothing-requires : tie.Need-nothing-requires
+nothing-requires c κs = search needs
 
 returns : tie.Need-returns
 returns c = rw (found (c .before .before)) (c .part-of .ensures)
@@ -43,7 +43,7 @@ returns-2 : tie.Need-returns-2
 returns-2 c = rw (found2 (c .before .before)) (c .part-of2 .ensures)
 
 returns-3 : tie.Need-returns-3
-returns-3 c = rw (sym (c .before .before .before .locate .ensures) ∙ c .before .enum-told .given .1) (c .part-of3 .ensures)
+returns-3 c = rw (sym (c .before .before .before .locate .ensures) ∙ c .before .enum-told .given .1) (c .nothing .ensures)
 
 pub item-spec : {M : Type 1} → statement M
 item-spec =
@@ -55,7 +55,7 @@ item-spec =
     enum-known-found-2
     part-of-requires-2
     enum-told
-    part-of-requires-3
+    nothing-requires
     returns
     returns-2
     returns-3)

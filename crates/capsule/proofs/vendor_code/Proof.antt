@@ -60,8 +60,8 @@ part-of-requires-3 c κs = let o = bytes (c .before .before) in omega (arith, o 
 enum-told : tie.Need-enum-told
 enum-told c = search needs
 
-part-of-requires-4 : tie.Need-part-of-requires-4
-part-of-requires-4 c κs = search needs
+nothing-requires : tie.Need-nothing-requires
+nothing-requires c κs = search needs
 
 returns : tie.Need-returns
 returns c = rw (found (c .before .before)) (c .part-of .ensures)
@@ -82,7 +82,7 @@ returns-2 c =
     (c .part-of3 .ensures))
 
 returns-3 : tie.Need-returns-3
-returns-3 c = rw (sym (c .before .before .before .locate .ensures) ∙ c .before .enum-told .given .1) (c .part-of4 .ensures)
+returns-3 c = rw (sym (c .before .before .before .locate .ensures) ∙ c .before .enum-told .given .1) (c .nothing .ensures)
 
 pub vendor-code-spec : {M : Type 1} → statement M
 vendor-code-spec =
@@ -99,7 +99,7 @@ vendor-code-spec =
     add-e
     part-of-requires-3
     enum-told
-    part-of-requires-4
+    nothing-requires
     returns
     returns-2
     returns-3)
