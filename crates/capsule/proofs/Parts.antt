@@ -12,7 +12,7 @@ use Rattle.capsule_check.specs.Payload.{payloadRight, vendorCodeEnd}
 use Rattle.capsule_check.proofs.Payload.{payload-fits}
 use Rattle.capsule_check.specs.Item.{located}
 use Rattle.capsule_check.specs.declared.Item.the-variants.{Payload}
-use Rattle.capsule_check.proofs.Places.{Inside, payload-inside, payload-holds}
+use Rattle.capsule_check.proofs.Places.{payload-inside, payload-holds}
 use Rattle.capsule.specs.Parts.{IsPart, range}
 
 part-length : (s : List ℕ) (a e : ℕ) → e ≤ length s → length (part s a e) ≡ e - a
@@ -29,9 +29,9 @@ pub opened : (s : List ℕ) (k a e : ℕ) (p : List ℕ) → located s k ≡ Pay
 opened s k a e p q same =
     let i = payload-inside s k a e q in
     let r : payloadRight p ≡ true = ap payloadRight same ∙ payload-holds s k a e q in
-    let l : length p ≡ e - a = ap length same ∙ part-length s a e (i .within) in
-    record { right = r; long = l; room = omega (arith, payload-fits p r, i .some); within = i .within }
+    let l : length p ≡ e - a = ap length same ∙ part-length s a e (i .1) in
+    record { right = r; long = l; room = omega (arith, payload-fits p r, i .0); within = i .1 }
 
 -- the same part, its ends said otherwise
-pub moved : (s r : RefT (List ℕ)) (a e x y : ℕ) → a ≡ x → e ≡ y → IsPart s r (range a e) → IsPart s r (range x y)
-moved s r a e x y p q h = subst (λ (j : ℕ). IsPart s r (range x j)) q (subst (λ (j : ℕ). IsPart s r (range j e)) p h)
+pub moved : {s r : RefT (List ℕ)} {a e x y : ℕ} → a ≡ x → e ≡ y → IsPart s r (range a e) → IsPart s r (range x y)
+moved {s} {r} {a} {e} {x} {y} p q h = subst (λ (j : ℕ). IsPart s r (range x j)) q (subst (λ (j : ℕ). IsPart s r (range j e)) p h)

@@ -29,17 +29,9 @@ sample =
     ++ bytes 4 2 ++ replicate 16 7 ++ (5 ∷ 0 ∷ 0 ∷ 0 ∷ []) ++ bytes 4 2 ++ bytes 4 1 ++ bytes 8 9
     ++ (0xa1 ∷ 0xa2 ∷ 0xb1 ∷ 0 ∷ [])
 
-driver-0 : located sample 0 ≡ Driver 52 55
+items-of : (located sample 0 ≡ Driver 52 55) × (located sample 1 ≡ Payload 55 99) × (located sample 2 ≡ Refused NoItem)
 unfolding le bytes guid same headerSize flags capsuleImageSize sizesRight flagsRight guidRight body version imageSize vendorCodeSize versionRight headerLength payloadRight all bodyVersion drivers payloads offset rises offsetRight bodyRight itemEnd item payloadAt payloadsRight verdict judged itemStartIn itemEndIn located
-driver-0 = refl
-
-payload-1 : located sample 1 ≡ Payload 55 99
-unfolding le bytes guid same headerSize flags capsuleImageSize sizesRight flagsRight guidRight body version imageSize vendorCodeSize versionRight headerLength payloadRight all bodyVersion drivers payloads offset rises offsetRight bodyRight itemEnd item payloadAt payloadsRight verdict judged itemStartIn itemEndIn located
-payload-1 = refl
-
-none-2 : located sample 2 ≡ Refused NoItem
-unfolding le bytes guid same headerSize flags capsuleImageSize sizesRight flagsRight guidRight body version imageSize vendorCodeSize versionRight headerLength payloadRight all bodyVersion drivers payloads offset rises offsetRight bodyRight itemEnd item payloadAt payloadsRight verdict judged itemStartIn itemEndIn located
-none-2 = refl
+items-of = (refl, refl, refl)
 
 driver-parts : (imagePart sample (Driver 52 55) ≡ range 52 55) × (vendorCodePart sample (Driver 52 55) ≡ range 55 55)
 driver-parts = (refl, refl)
@@ -48,7 +40,8 @@ payload-parts : (imagePart sample (Payload 55 99) ≡ range 95 97) × (vendorCod
 unfolding le bytes version imageSize vendorCodeSize headerLength
 payload-parts = (refl, refl)
 
-payload-shown : (typeGuidOf sample (Payload 55 99) ≡ replicate 16 7) × (imageIndexOf sample (Payload 55 99) ≡ 5) × (hardwareInstanceOf sample (Payload 55 99) ≡ 9)
+payload-shown : (typeGuidOf sample (Payload 55 99) ≡ replicate 16 7)
+    × (imageIndexOf sample (Payload 55 99) ≡ 5) × (hardwareInstanceOf sample (Payload 55 99) ≡ 9)
 unfolding le bytes guid version typeGuid imageIndex hardwareInstance
 payload-shown = (refl, refl, refl)
 

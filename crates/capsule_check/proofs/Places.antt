@@ -112,13 +112,17 @@ holds s k = go (verdict s) refl
     go (Verdict.Refused r) e = tt
 
 module _ (s : List ℕ) (k a e : ℕ) where
-  pub driver-inside : located s k ≡ Driver a e → Inside s a e
+  pub driver-inside : located s k ≡ Driver a e → (a ≤ e) × (e ≤ length s)
   unfolding Holds
-  driver-inside q = rw q at (holds s k)
+  driver-inside q =
+      let i : Inside s a e = rw q at (holds s k) in
+      (omega arith, i .within)
 
-  pub payload-inside : located s k ≡ Payload a e → Inside s a e
+  pub payload-inside : located s k ≡ Payload a e → (a ≤ e) × (e ≤ length s)
   unfolding Holds
-  payload-inside q = (rw q at (holds s k)) .0
+  payload-inside q =
+      let i : Inside s a e = (rw q at (holds s k)) .0 in
+      (omega arith, i .within)
 
   pub payload-holds : located s k ≡ Payload a e → payloadRight (part s a e) ≡ true
   unfolding Holds

@@ -13,11 +13,15 @@ use Rattle.capsule.proofs.hardware_instance.Statement.{statement}
 use Rattle.capsule.proofs.hardware_instance.Tie as tie
 
 -- the item that was found
-found : (c : tie.After-found) → let a = c .before .before .before .before .args in located (a .s .now) (a .k) ≡ Payload (c .found .given .0 .0) (c .found .given .0 .1 .0)
+found : (c : tie.After-found)
+    → let a = c .before .before .before .before .args in
+    located (a .s .now) (a .k) ≡ Payload (c .found .given .0 .0) (c .found .given .0 .1 .0)
 found c = sym (c .before .before .locate .ensures) ∙ c .found .given .1
 
 -- its bytes, where it is a payload
-bytes : (c : tie.After-part-of) → let f = c .before .before in Opened (f .before .before .before .before .args .s .now) (f .found .given .0 .0) (f .found .given .0 .1 .0) (c .part-of .result .now)
+bytes : (c : tie.After-part-of)
+    → let f = c .before .before in
+    Opened (f .before .before .before .before .args .s .now) (f .found .given .0 .0) (f .found .given .0 .1 .0) (c .part-of .result .now)
 bytes c =
     let f = c .before .before in
     let a = f .before .before .before .before .args in
@@ -30,7 +34,10 @@ enum-known-found : tie.Need-enum-known-found
 enum-known-found c = search needs
 
 part-of-requires : tie.Need-part-of-requires
-part-of-requires c κs = let a = c .before .before .before .before .before .args in let g = c .before .found .given .0 in omega (arith, payload-inside (a .s .now) (a .k) (g .0) (g .1 .0) (found (c .before)) .some, payload-inside (a .s .now) (a .k) (g .0) (g .1 .0) (found (c .before)) .within)
+part-of-requires c κs =
+    let a = c .before .before .before .before .before .args in
+    let g = c .before .found .given .0 in
+    payload-inside (a .s .now) (a .k) (g .0) (g .1 .0) (found (c .before))
 
 instance-of-requires : tie.Need-instance-of-requires
 instance-of-requires c κs = bytes c .right

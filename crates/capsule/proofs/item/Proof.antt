@@ -9,10 +9,14 @@ use Rattle.capsule.proofs.item.Statement.{statement}
 use Rattle.capsule.proofs.item.Tie as tie
 
 -- the item that was found
-found : (c : tie.After-found) → let a = c .before .before .before .before .args in located (a .s .now) (a .k) ≡ Driver (c .found .given .0 .0) (c .found .given .0 .1 .0)
+found : (c : tie.After-found)
+    → let a = c .before .before .before .before .args in
+    located (a .s .now) (a .k) ≡ Driver (c .found .given .0 .0) (c .found .given .0 .1 .0)
 found c = sym (c .before .before .locate .ensures) ∙ c .found .given .1
 
-found2 : (c : tie.After-found2) → let a = c .before .before .before .before .args in located (a .s .now) (a .k) ≡ Payload (c .found2 .given .0 .0) (c .found2 .given .0 .1 .0)
+found2 : (c : tie.After-found2)
+    → let a = c .before .before .before .before .args in
+    located (a .s .now) (a .k) ≡ Payload (c .found2 .given .0 .0) (c .found2 .given .0 .1 .0)
 found2 c = sym (c .before .before .locate .ensures) ∙ c .found2 .given .1
 
 locate-requires : tie.Need-locate-requires
@@ -22,13 +26,19 @@ enum-known-found : tie.Need-enum-known-found
 enum-known-found c = search needs
 
 part-of-requires : tie.Need-part-of-requires
-part-of-requires c κs = let a = c .before .before .before .before .before .args in let g = c .before .found .given .0 in omega (arith, driver-inside (a .s .now) (a .k) (g .0) (g .1 .0) (found (c .before)) .some, driver-inside (a .s .now) (a .k) (g .0) (g .1 .0) (found (c .before)) .within)
+part-of-requires c κs =
+    let a = c .before .before .before .before .before .args in
+    let g = c .before .found .given .0 in
+    driver-inside (a .s .now) (a .k) (g .0) (g .1 .0) (found (c .before))
 
 enum-known-found-2 : tie.Need-enum-known-found-2
 enum-known-found-2 c = search needs
 
 part-of-requires-2 : tie.Need-part-of-requires-2
-part-of-requires-2 c κs = let a = c .before .before .before .before .before .args in let g = c .before .found2 .given .0 in omega (arith, payload-inside (a .s .now) (a .k) (g .0) (g .1 .0) (found2 (c .before)) .some, payload-inside (a .s .now) (a .k) (g .0) (g .1 .0) (found2 (c .before)) .within)
+part-of-requires-2 c κs =
+    let a = c .before .before .before .before .before .args in
+    let g = c .before .found2 .given .0 in
+    payload-inside (a .s .now) (a .k) (g .0) (g .1 .0) (found2 (c .before))
 
 enum-told : tie.Need-enum-told
 enum-told c = search needs

@@ -18,13 +18,19 @@ enum-known-found : tie.Need-enum-known-found
 enum-known-found c = search needs
 
 returns : tie.Need-returns
-returns c = let a = c .before .before .before .before .args in rw (sym (c .before .before .locate .ensures) ∙ c .enum-told .given .1) at (told-judged (a .s .now) (a .k))
+returns c =
+    let a = c .before .before .before .before .args in
+    rw (sym (c .before .before .locate .ensures) ∙ c .enum-told .given .1) at (told-judged (a .s .now) (a .k))
 
 returns-2 : tie.Need-returns-2
-returns-2 c = let a = c .before .before .before .before .args in rw (sym (c .before .before .locate .ensures) ∙ c .enum-told2 .given .1) at (told-judged (a .s .now) (a .k))
+returns-2 c =
+    let a = c .before .before .before .before .args in
+    rw (sym (c .before .before .locate .ensures) ∙ c .enum-told2 .given .1) at (told-judged (a .s .now) (a .k))
 
 returns-3 : tie.Need-returns-3
-returns-3 c = let a = c .before .before .before .before .before .args in rw (sym (c .before .before .before .locate .ensures) ∙ c .before .found .given .1) at (told-judged (a .s .now) (a .k))
+returns-3 c =
+    let a = c .before .before .before .before .before .args in
+    rw (sym (c .before .before .before .locate .ensures) ∙ c .before .found .given .1) at (told-judged (a .s .now) (a .k))
 
 pub refusal-spec : {M : Type 1} → statement M
 refusal-spec =

@@ -28,7 +28,10 @@ part-result-end c = search needs
 
 returns : tie.Need-returns
 unfolding headerSize
-returns c = let a = c .before .before .before in let s = a .args .s .now in rw (c .before .read32 .ensures) (body-rest s (a .pre))
+returns c =
+    let a = c .before .before .before in
+    let s = a .args .s .now in
+    rw (c .before .read32 .ensures) (body-rest s (a .pre))
 
 pub body-of-spec : {M : Type 1} → statement M
 body-of-spec =

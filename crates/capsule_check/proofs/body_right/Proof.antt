@@ -19,7 +19,10 @@ read32-requires c κs = search needs
 
 returns-2 : tie.Need-returns-2
 unfolding bodyRight bodyVersion
-returns-2 c = let b = c .before .before .before .before .args .b .now in let r = c .before .read32 in simp (le-leb 8 (length b) (omega arith), ne-eqb (le 4 b 0) 1 (λ e. c .if2 .taken (r .ensures ∙ e)))
+returns-2 c =
+    let b = c .before .before .before .before .args .b .now in
+    let r = c .before .read32 in
+    simp (le-leb 8 (length b) (omega arith), ne-eqb (le 4 b 0) 1 (λ e. c .if2 .taken (r .ensures ∙ e)))
 
 read16-requires : tie.Need-read16-requires
 read16-requires c κs = search needs
@@ -38,7 +41,9 @@ add-n c = search needs
 
 returns-3 : tie.Need-returns-3
 unfolding bodyRight bodyVersion drivers payloads
-returns-3 c = let b = c .before .before .before .before .before .before .before .args .b .now in simp (le-leb 8 (length b) (omega arith), eq-eqb (le 4 b 0) 1 (omega arith), lt-leb (le 2 b 4 + le 2 b 6) 64 (omega arith))
+returns-3 c =
+    let b = c .before .before .before .before .before .before .before .args .b .now in
+    simp (le-leb 8 (length b) (omega arith), eq-eqb (le 4 b 0) 1 (omega arith), lt-leb (le 2 b 4 + le 2 b 6) 64 (omega arith))
 
 offsets-right-requires : tie.Need-offsets-right-requires
 unfolding drivers payloads
@@ -46,7 +51,9 @@ offsets-right-requires c κs = omega arith
 
 returns-4 : tie.Need-returns-4
 unfolding bodyRight bodyVersion drivers payloads
-returns-4 c = let b = c .before .before .before .before .before .before .before .before .args .b .now in simp (le-leb 8 (length b) (omega arith), eq-eqb (le 4 b 0) 1 (omega arith), le-leb (le 2 b 4 + le 2 b 6) 64 (omega arith)) (c .offsets-right .ensures)
+returns-4 c =
+    let b = c .before .before .before .before .before .before .before .before .args .b .now in
+    simp (le-leb 8 (length b) (omega arith), eq-eqb (le 4 b 0) 1 (omega arith), le-leb (le 2 b 4 + le 2 b 6) 64 (omega arith)) (c .offsets-right .ensures)
 
 pub body-right-spec : {M : Type 1} → statement M
 body-right-spec =

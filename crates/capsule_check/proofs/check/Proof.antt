@@ -46,7 +46,9 @@ sizes-right-requires c κs = search needs
 
 returns-2 : tie.Need-returns-2
 unfolding verdict
-returns-2 c = let r = c .before .sizes-right in rw (long-enough (c .before .before), sym (r .ensures) ∙ not-true (r .result) (c .if2 .taken))
+returns-2 c =
+    let r = c .before .sizes-right in
+    rw (long-enough (c .before .before), sym (r .ensures) ∙ not-true (r .result) (c .if2 .taken))
 
 read32-requires : tie.Need-read32-requires
 read32-requires c κs = search needs
@@ -56,14 +58,21 @@ flags-right-requires c κs = search needs
 
 returns-3 : tie.Need-returns-3
 unfolding verdict
-returns-3 c = let r = c .before .flags-right in let b = c .before .before .before in rw (long-enough (b .before .before), sized b, flags-read (c .before) ∙ not-true (r .result) (c .if3 .taken))
+returns-3 c =
+    let r = c .before .flags-right in
+    let b = c .before .before .before in
+    rw (long-enough (b .before .before), sized b, flags-read (c .before) ∙ not-true (r .result) (c .if3 .taken))
 
 guid-right-requires : tie.Need-guid-right-requires
 guid-right-requires c κs = search needs
 
 returns-4 : tie.Need-returns-4
 unfolding verdict
-returns-4 c = let r = c .before .guid-right in let f = c .before .before in let b = f .before .before .before in rw (long-enough (b .before .before), sized b, flagged f, sym (r .ensures) ∙ not-true (r .result) (c .if4 .taken))
+returns-4 c =
+    let r = c .before .guid-right in
+    let f = c .before .before in
+    let b = f .before .before .before in
+    rw (long-enough (b .before .before), sized b, flagged f, sym (r .ensures) ∙ not-true (r .result) (c .if4 .taken))
 
 body-of-requires : tie.Need-body-of-requires
 body-of-requires c κs = sized (c .before .before .before .before .before)
@@ -73,18 +82,37 @@ body-right-requires c κs = search needs
 
 returns-5 : tie.Need-returns-5
 unfolding verdict
-returns-5 c = let r = c .before .body-right in let g = c .before .before .before in let f = g .before .before in let b = f .before .before .before in rw (long-enough (b .before .before), sized b, flagged f, named g, body-read (c .before) ∙ not-true (r .result) (c .if5 .taken))
+returns-5 c =
+    let r = c .before .body-right in
+    let g = c .before .before .before in
+    let f = g .before .before in
+    let b = f .before .before .before in
+    rw (long-enough (b .before .before), sized b, flagged f, named g, body-read (c .before) ∙ not-true (r .result) (c .if5 .taken))
 
 payloads-right-requires : tie.Need-payloads-right-requires
-payloads-right-requires c κs = let r = c .before .body-right in sym (r .ensures) ∙ not-false (r .result) (c .if5 .left)
+payloads-right-requires c κs =
+    let r = c .before .body-right in
+    sym (r .ensures) ∙ not-false (r .result) (c .if5 .left)
 
 returns-6 : tie.Need-returns-6
 unfolding verdict
-returns-6 c = let r = c .before .payloads-right in let d = c .before .before in let g = d .before .before .before in let f = g .before .before in let b = f .before .before .before in rw (long-enough (b .before .before), sized b, flagged f, named g, bodied d, payloads-read (c .before) ∙ not-true (r .result) (c .if6 .taken))
+returns-6 c =
+    let r = c .before .payloads-right in
+    let d = c .before .before in
+    let g = d .before .before .before in
+    let f = g .before .before in
+    let b = f .before .before .before in
+    rw (long-enough (b .before .before), sized b, flagged f, named g, bodied d, payloads-read (c .before) ∙ not-true (r .result) (c .if6 .taken))
 
 returns-7 : tie.Need-returns-7
 unfolding verdict
-returns-7 c = let r = c .before .payloads-right in let d = c .before .before in let g = d .before .before .before in let f = g .before .before in let b = f .before .before .before in rw (long-enough (b .before .before), sized b, flagged f, named g, bodied d, payloads-read (c .before) ∙ not-false (r .result) (c .if6 .left))
+returns-7 c =
+    let r = c .before .payloads-right in
+    let d = c .before .before in
+    let g = d .before .before .before in
+    let f = g .before .before in
+    let b = f .before .before .before in
+    rw (long-enough (b .before .before), sized b, flagged f, named g, bodied d, payloads-read (c .before) ∙ not-false (r .result) (c .if6 .left))
 
 pub check-spec : {M : Type 1} → statement M
 check-spec =

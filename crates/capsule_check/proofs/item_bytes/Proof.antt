@@ -10,8 +10,12 @@ use Rattle.capsule_check.proofs.item_bytes.Statement.{statement}
 use Rattle.capsule_check.proofs.item_bytes.Tie as tie
 
 -- the item's place is in the body
-inside : (c : tie.After-item-end) → let a = c .before .before .before .args in (offset (a .b .now) (a .k) < itemEnd (a .b .now) (a .k)) × (itemEnd (a .b .now) (a .k) ≤ length (a .b .now))
-inside c = let s = c .before .before .before in item-in (s .args .b .now) (s .pre .0) (s .args .k) (omega arith)
+inside : (c : tie.After-item-end)
+    → let a = c .before .before .before .args in
+    (offset (a .b .now) (a .k) < itemEnd (a .b .now) (a .k)) × (itemEnd (a .b .now) (a .k) ≤ length (a .b .now))
+inside c =
+    let s = c .before .before .before in
+    item-in (s .args .b .now) (s .pre .0) (s .args .k) (omega arith)
 
 item-start-requires : tie.Need-item-start-requires
 item-start-requires c κs = search needs

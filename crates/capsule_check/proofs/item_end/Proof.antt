@@ -18,7 +18,9 @@ item-start-requires c κs = search needs
 
 returns : tie.Need-returns
 unfolding itemEnd
-returns c = let a = c .before .before .before .args in simp (lt-ltb (a .k + 1) (items (a .b .now)) (omega arith)) (c .item-start .ensures)
+returns c =
+    let a = c .before .before .before .args in
+    simp (lt-ltb (a .k + 1) (items (a .b .now)) (omega arith)) (c .item-start .ensures)
 
 returns-2 : tie.Need-returns-2
 unfolding itemEnd

@@ -18,7 +18,9 @@ pick-requires : tie.Need-pick-requires
 pick-requires c κs = sym (c .before .before .check .ensures) ∙ c .enum-told .given .1
 
 returns : tie.Need-returns
-returns c = let a = c .before .before .before .before .before .args in sym (located-refused (a .s .now) (a .k) (c .before .checked .given .0 .0) (sym (c .before .before .before .check .ensures) ∙ c .before .checked .given .1))
+returns c =
+    let a = c .before .before .before .before .before .args in
+    sym (located-refused (a .s .now) (a .k) (c .before .checked .given .0 .0) (sym (c .before .before .before .check .ensures) ∙ c .before .checked .given .1))
 
 returns-2 : tie.Need-returns-2
 returns-2 c = search needs

@@ -29,11 +29,15 @@ add-if1 c = search needs
 
 returns : tie.Need-returns
 unfolding offsetRight offset
-returns c = let a = c .before .before .before .args in simp (lt-leb (listEnd (a .b .now)) (le 8 (a .b .now) (8 + 8 * a .k)) (omega arith))
+returns c =
+    let a = c .before .before .before .args in
+    simp (lt-leb (listEnd (a .b .now)) (le 8 (a .b .now) (8 + 8 * a .k)) (omega arith))
 
 returns-2 : tie.Need-returns-2
 unfolding offsetRight offset
-returns-2 c = let a = c .before .before .before .before .args in simp (le-leb (listEnd (a .b .now)) (le 8 (a .b .now) (8 + 8 * a .k)) (omega arith), le-ltb (le 8 (a .b .now) (8 + 8 * a .k)) (length (a .b .now)) (omega arith))
+returns-2 c =
+    let a = c .before .before .before .before .args in
+    simp (le-leb (listEnd (a .b .now)) (le 8 (a .b .now) (8 + 8 * a .k)) (omega arith), le-ltb (le 8 (a .b .now) (8 + 8 * a .k)) (length (a .b .now)) (omega arith))
 
 returns-3 : tie.Need-returns-3
 unfolding offsetRight offset

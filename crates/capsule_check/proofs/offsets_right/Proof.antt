@@ -33,7 +33,11 @@ offset-right-requires : tie.Need-offset-right-requires Inv-loop μ-loop
 offset-right-requires c κs = search needs
 
 returns-2 : tie.Need-returns-2 Inv-loop μ-loop
-returns-2 c = let l = c .before .before .before in let s = l .before .before .before in let r = c .before .offset-right in sym (all-fails (offsetRight (s .args .b .now)) (items (s .args .b .now)) (l .loop .k) (omega arith) (sym (r .ensures) ∙ not-true (r .result) (c .if2 .taken)))
+returns-2 c =
+    let l = c .before .before .before in
+    let s = l .before .before .before in
+    let r = c .before .offset-right in
+    sym (all-fails (offsetRight (s .args .b .now)) (items (s .args .b .now)) (l .loop .k) (omega arith) (sym (r .ensures) ∙ not-true (r .result) (c .if2 .taken)))
 
 add-k : tie.Need-add-k Inv-loop μ-loop
 add-k c = search needs
@@ -42,10 +46,17 @@ loop-less : tie.Need-loop-less Inv-loop μ-loop
 loop-less c = omega arith
 
 loop-again : tie.Need-loop-again Inv-loop μ-loop
-loop-again c = let l = c .before .before .before in let s = l .before .before .before in let r = c .before .offset-right in (omega arith, all-more (offsetRight (s .args .b .now)) (l .loop .k) (l .loop .inv .1) (sym (r .ensures) ∙ not-false (r .result) (c .if2 .left)))
+loop-again c =
+    let l = c .before .before .before in
+    let s = l .before .before .before in
+    let r = c .before .offset-right in
+    (omega arith, all-more (offsetRight (s .args .b .now)) (l .loop .k) (l .loop .inv .1) (sym (r .ensures) ∙ not-false (r .result) (c .if2 .left)))
 
 returns-3 : tie.Need-returns-3 Inv-loop μ-loop
-returns-3 c = let l = c .before in let s = l .before .before .before in all-whole (offsetRight (s .args .b .now)) (l .loop .k) (items (s .args .b .now)) (l .loop .inv .1) (omega arith)
+returns-3 c =
+    let l = c .before in
+    let s = l .before .before .before in
+    all-whole (offsetRight (s .args .b .now)) (l .loop .k) (items (s .args .b .now)) (l .loop .inv .1) (omega arith)
 
 pub offsets-right-spec : {M : Type 1} → statement M
 offsets-right-spec =

@@ -20,7 +20,10 @@ version-right-requires c κs = search needs
 
 returns-2 : tie.Need-returns-2
 unfolding payloadRight version
-returns-2 c = let v = c .before in let e = not-true (v .version-right .result) (c .if2 .taken) in rw (← v .before .read32 .ensures, ← v .version-right .ensures, e)
+returns-2 c =
+    let v = c .before in
+    let e = not-true (v .version-right .result) (c .if2 .taken) in
+    rw (← v .before .read32 .ensures, ← v .version-right .ensures, e)
 
 read32-requires-2 : tie.Need-read32-requires-2
 read32-requires-2 c κs = search needs
@@ -45,7 +48,11 @@ add-result-2 c = omega (arith, c .header-length .ensures, header-ends (c .before
 
 returns-3 : tie.Need-returns-3
 unfolding payloadRight version imageSize vendorCodeSize
-returns-3 c = let d = c .before .before .before in let v = d .before in let e = not-false (v .version-right .result) (d .if2 .left) in rw (← v .before .read32 .ensures, ← c .before .read323 .ensures, ← c .before .before .read322 .ensures, ← v .version-right .ensures, e, c .header-length .ensures)
+returns-3 c =
+    let d = c .before .before .before in
+    let v = d .before in
+    let e = not-false (v .version-right .result) (d .if2 .left) in
+    rw (← v .before .read32 .ensures, ← c .before .read323 .ensures, ← c .before .before .read322 .ensures, ← v .version-right .ensures, e, c .header-length .ensures)
 
 pub payload-right-spec : {M : Type 1} → statement M
 payload-right-spec =

@@ -36,19 +36,27 @@ unfolding drivers payloads
 loop-holds c = (omega arith, c .before .read16 .ensures, c .read162 .ensures, all-none (payloadAt (c .before .before .before .args .b .now)))
 
 add-item-bytes : tie.Need-add-item-bytes Inv-loop μ-loop
-add-item-bytes c = let s = c .before .before .before .before .before in omega (arith, few-items (s .args .b .now) (s .pre))
+add-item-bytes c =
+    let s = c .before .before .before .before .before in
+    omega (arith, few-items (s .args .b .now) (s .pre))
 
 add-item-bytes-2 : tie.Need-add-item-bytes-2 Inv-loop μ-loop
-add-item-bytes-2 c = let s = c .before .before .before .before .before in omega (arith, few-items (s .args .b .now) (s .pre))
+add-item-bytes-2 c =
+    let s = c .before .before .before .before .before in
+    omega (arith, few-items (s .args .b .now) (s .pre))
 
 item-bytes-requires : tie.Need-item-bytes-requires Inv-loop μ-loop
-item-bytes-requires c κs = let s = c .before .before .before .before .before in (s .pre, omega arith, omega arith)
+item-bytes-requires c κs =
+    let s = c .before .before .before .before .before in
+    (s .pre, omega arith, omega arith)
 
 payload-right-requires : tie.Need-payload-right-requires Inv-loop μ-loop
 payload-right-requires c κs = search needs
 
 -- what the call says of the payload at hand
-judged-at : (c : tie.After-payload-right Inv-loop μ-loop) → let l = c .before .before .before in payloadAt (l .before .before .before .before .args .b .now) (l .loop .j) ≡ c .payload-right .result
+judged-at : (c : tie.After-payload-right Inv-loop μ-loop)
+    → let l = c .before .before .before in
+    payloadAt (l .before .before .before .before .args .b .now) (l .loop .j) ≡ c .payload-right .result
 unfolding payloadAt
 judged-at c =
     let l = c .before .before .before in
@@ -57,20 +65,33 @@ judged-at c =
 
 returns : tie.Need-returns Inv-loop μ-loop
 unfolding payloadsRight
-returns c = let l = c .before .before .before .before in let b = l .before .before .before .before .args .b .now in let r = c .before .payload-right in sym (all-fails (payloadAt b) (payloads b) (l .loop .j) (omega arith) (judged-at (c .before) ∙ not-true (r .result) (c .if1 .taken)))
+returns c =
+    let l = c .before .before .before .before in
+    let b = l .before .before .before .before .args .b .now in
+    let r = c .before .payload-right in
+    sym (all-fails (payloadAt b) (payloads b) (l .loop .j) (omega arith) (judged-at (c .before) ∙ not-true (r .result) (c .if1 .taken)))
 
 add-j : tie.Need-add-j Inv-loop μ-loop
-add-j c = let s = c .before .before .before .before .before .before .before .before in omega (arith, few-items (s .args .b .now) (s .pre))
+add-j c =
+    let s = c .before .before .before .before .before .before .before .before in
+    omega (arith, few-items (s .args .b .now) (s .pre))
 
 loop-less : tie.Need-loop-less Inv-loop μ-loop
 loop-less c = omega arith
 
 loop-again : tie.Need-loop-again Inv-loop μ-loop
-loop-again c = let l = c .before .before .before .before in let b = l .before .before .before .before .args .b .now in let r = c .before .payload-right in (omega arith, l .loop .inv .1, l .loop .inv .2, all-more (payloadAt b) (l .loop .j) (l .loop .inv .3) (judged-at (c .before) ∙ not-false (r .result) (c .if1 .left)))
+loop-again c =
+    let l = c .before .before .before .before in
+    let b = l .before .before .before .before .args .b .now in
+    let r = c .before .payload-right in
+    (omega arith, l .loop .inv .1, l .loop .inv .2, all-more (payloadAt b) (l .loop .j) (l .loop .inv .3) (judged-at (c .before) ∙ not-false (r .result) (c .if1 .left)))
 
 returns-2 : tie.Need-returns-2 Inv-loop μ-loop
 unfolding payloadsRight
-returns-2 c = let l = c .before in let b = l .before .before .before .before .args .b .now in all-whole (payloadAt b) (l .loop .j) (payloads b) (l .loop .inv .3) (omega arith)
+returns-2 c =
+    let l = c .before in
+    let b = l .before .before .before .before .args .b .now in
+    all-whole (payloadAt b) (l .loop .j) (payloads b) (l .loop .inv .3) (omega arith)
 
 pub payloads-right-spec : {M : Type 1} → statement M
 payloads-right-spec =

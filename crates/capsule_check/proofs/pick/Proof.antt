@@ -29,14 +29,18 @@ room c =
     rw (c .body-of .ensures) (omega (arith, list-fits (body (s .args .s .now)) (sound s .offsets)))
 
 -- the counts that were read
-counts : (c : tie.After-read162) → let b = body (c .before .before .before .before .before .args .s .now) in (c .before .read16 .result ≡ drivers b) × (c .read162 .result ≡ payloads b)
+counts : (c : tie.After-read162)
+    → let b = body (c .before .before .before .before .before .args .s .now) in
+    (c .before .read16 .result ≡ drivers b) × (c .read162 .result ≡ payloads b)
 unfolding drivers payloads
 counts c =
     let e = c .before .before .body-of .ensures in
     (c .before .read16 .ensures ∙ ap (λ (l : List ℕ). le 2 l 4) e, c .read162 .ensures ∙ ap (λ (l : List ℕ). le 2 l 6) e)
 
 -- what the places of an item ask
-asked : (c : tie.After-read162) → let b = c .before .before .body-of .result .now in let n = c .before .read16 .result + c .read162 .result in let k = c .before .before .before .before .before .args .k in
+asked : (c : tie.After-read162)
+    → let b = c .before .before .body-of .result .now in let n = c .before .read16 .result + c .read162 .result in
+    let k = c .before .before .before .before .before .args .k in
     k < n → (bodyRight b ≡ true) × (n ≡ items b) × (k < n)
 asked c h =
     let e = c .before .before .body-of .ensures in
@@ -68,7 +72,10 @@ add-n : tie.Need-add-n
 add-n c = search needs
 
 returns : tie.Need-returns
-returns c = let b = c .before in let s = b .before .before .before .before .before in sym (located-none (s .args .s .now) (s .args .k) (s .pre) (omega (arith, counts b)))
+returns c =
+    let b = c .before in
+    let s = b .before .before .before .before .before in
+    sym (located-none (s .args .s .now) (s .args .k) (s .pre) (omega (arith, counts b)))
 
 item-start-requires : tie.Need-item-start-requires
 item-start-requires c κs = asked (c .before) (omega arith)
@@ -77,19 +84,25 @@ item-start-requires c κs = asked (c .before) (omega arith)
 counted : (c : tie.Else1) → let s = c .before .before .before .before .before .before in s .args .k < items (body (s .args .s .now))
 counted c = omega (arith, counts (c .before))
 
-placed : (c : tie.Else1) → let s = c .before .before .before .before .before .before in Inside (s .args .s .now) (itemStartIn (s .args .s .now) (s .args .k)) (itemEndIn (s .args .s .now) (s .args .k))
+placed : (c : tie.Else1)
+    → let s = c .before .before .before .before .before .before in
+    Inside (s .args .s .now) (itemStartIn (s .args .s .now) (s .args .k)) (itemEndIn (s .args .s .now) (s .args .k))
 placed c =
     let s = c .before .before .before .before .before .before in
     item-inside (s .args .s .now) (s .args .k) (sound s) (counted c)
 
-start-is : (c : tie.After-item-start) → let r = c .before .before .before .before .before in let s = r .before .before in r .read32 .result + c .item-start .result ≡ itemStartIn (s .args .s .now) (s .args .k)
+start-is : (c : tie.After-item-start)
+    → let r = c .before .before .before .before .before in let s = r .before .before in
+    r .read32 .result + c .item-start .result ≡ itemStartIn (s .args .s .now) (s .args .k)
 unfolding itemStartIn headerSize
 start-is c =
     let o = c .before .before .before .before in
     let k = o .before .before .before .args .k in
     omega (arith, c .item-start .ensures ∙ ap (λ (l : List ℕ). offset l k) (o .body-of .ensures), o .before .read32 .ensures)
 
-end-is : (c : tie.After-item-end) → let r = c .before .before .before .before .before .before in let s = r .before .before in r .read32 .result + c .item-end .result ≡ itemEndIn (s .args .s .now) (s .args .k)
+end-is : (c : tie.After-item-end)
+    → let r = c .before .before .before .before .before .before in let s = r .before .before in
+    r .read32 .result + c .item-end .result ≡ itemEndIn (s .args .s .now) (s .args .k)
 unfolding itemEndIn headerSize
 end-is c =
     let o = c .before .before .before .before .before in
@@ -97,13 +110,17 @@ end-is c =
     omega (arith, c .item-end .ensures ∙ ap (λ (l : List ℕ). itemEnd l k) (o .body-of .ensures), o .before .read32 .ensures)
 
 add-start : tie.Need-add-start
-add-start c = let s = c .before .before .before .before .before .before .before in omega (arith, start-is c, placed (c .before) .some, placed (c .before) .within, s .good)
+add-start c =
+    let s = c .before .before .before .before .before .before .before in
+    omega (arith, start-is c, placed (c .before) .some, placed (c .before) .within, s .good)
 
 item-end-requires : tie.Need-item-end-requires
 item-end-requires c κs = asked (c .before .before) (omega arith)
 
 add-end : tie.Need-add-end
-add-end c = let s = c .before .before .before .before .before .before .before .before in omega (arith, end-is c, placed (c .before .before) .within, s .good)
+add-end c =
+    let s = c .before .before .before .before .before .before .before .before in
+    omega (arith, end-is c, placed (c .before .before) .within, s .good)
 
 returns-2 : tie.Need-returns-2
 returns-2 c =
