@@ -136,112 +136,135 @@ fn tally(b: &[u8; 1024], n: usize) {
     number(capsule_check::payload_count(front(b, n)) as u64);
 }
 
-fn whole() {
+// The sample, item k of it.
+fn whole(label: &[u8], k: usize) {
     let mut b = [0u8; 1024];
     sample(&mut b);
-    show(b"driver", &b, WHOLE, 0);
-    show(b"payload, version 1", &b, WHOLE, 1);
-    show(b"payload, version 2", &b, WHOLE, 2);
-    show(b"no item 3", &b, WHOLE, 3);
-    show(b"no item 2^64 - 1", &b, WHOLE, 0xFFFF_FFFF_FFFF_FFFF);
+    show(label, &b, WHOLE, k);
+}
+
+fn samples() {
+    whole(b"driver", 0);
+    whole(b"payload, version 1", 1);
+    whole(b"payload, version 2", 2);
+    whole(b"no item 3", 3);
+    whole(b"no item 2^64 - 1", 0xFFFF_FFFF_FFFF_FFFF);
+}
+
+// The counts of the sample, and of the sample less its last byte, which is refused.
+fn counted() {
+    let mut b = [0u8; 1024];
+    sample(&mut b);
     io::write_all(1, b"counts");
     tally(&b, WHOLE);
     tally(&b, 156);
     io::write_all(1, b"\n");
 }
 
-fn sizes() {
+// n bytes with this HeaderSize and CapsuleImageSize.
+fn size(label: &[u8], header_size: u32, total: u32, n: usize) {
     let mut b = [0u8; 1024];
-    header(&mut b, 28, 0, 27);
-    show(b"27 bytes", &b, 27, 0);
-    show(b"0 bytes", &b, 0, 0);
-    header(&mut b, 28, 0, 28);
-    show(b"28 bytes, body of 0", &b, 28, 0);
-    header(&mut b, 27, 0, 28);
-    show(b"28 bytes, HeaderSize 27", &b, 28, 0);
-    header(&mut b, 29, 0, 28);
-    show(b"HeaderSize one above the size", &b, 28, 0);
-    header(&mut b, 40, 0, 40);
-    show(b"HeaderSize the size", &b, 40, 0);
-    header(&mut b, 41, 0, 40);
-    show(b"HeaderSize the size + 1", &b, 40, 0);
-    header(&mut b, 0xFFFF_FFFF, 0, 40);
-    show(b"HeaderSize 2^32 - 1", &b, 40, 0);
-    header(&mut b, 28, 0, 39);
-    show(b"length one above CapsuleImageSize", &b, 40, 0);
-    header(&mut b, 28, 0, 41);
-    show(b"length one below CapsuleImageSize", &b, 40, 0);
+    header(&mut b, header_size, 0, total);
+    show(label, &b, n, 0);
+}
+
+fn sizes() {
+    size(b"27 bytes", 28, 27, 27);
+    size(b"0 bytes", 28, 27, 0);
+    size(b"28 bytes, body of 0", 28, 28, 28);
+    size(b"28 bytes, HeaderSize 27", 27, 28, 28);
+    size(b"HeaderSize one above the size", 29, 28, 28);
+    size(b"HeaderSize the size", 40, 40, 40);
+    size(b"HeaderSize the size + 1", 41, 40, 40);
+    size(b"HeaderSize 2^32 - 1", 0xFFFF_FFFF, 40, 40);
+    size(b"length one above CapsuleImageSize", 28, 39, 40);
+    size(b"length one below CapsuleImageSize", 28, 41, 40);
+}
+
+// The sample with these flags.
+fn flag(label: &[u8], flags: u32) {
+    let mut b = [0u8; 1024];
+    sample(&mut b);
+    put32(&mut b, 20, flags);
+    show(label, &b, WHOLE, 0);
 }
 
 fn flags() {
-    let mut b = [0u8; 1024];
-    sample(&mut b);
-    put32(&mut b, 20, 0x0004_0000);
-    show(b"reset alone", &b, WHOLE, 0);
-    put32(&mut b, 20, 0x0005_0000);
-    show(b"reset and persist", &b, WHOLE, 0);
-    put32(&mut b, 20, 0x0001_0000);
-    show(b"persist alone", &b, WHOLE, 0);
-    put32(&mut b, 20, 0x0002_0000);
-    show(b"populate alone", &b, WHOLE, 0);
-    put32(&mut b, 20, 0xFFFE_FFFF);
-    show(b"all but persist", &b, WHOLE, 0);
-    put32(&mut b, 20, 0xFFFF_FFFF);
-    show(b"all flags", &b, WHOLE, 0);
-    put32(&mut b, 20, 0xFFFA_FFFF);
-    show(b"all but persist and reset", &b, WHOLE, 0);
+    flag(b"reset alone", 0x0004_0000);
+    flag(b"reset and persist", 0x0005_0000);
+    flag(b"persist alone", 0x0001_0000);
+    flag(b"populate alone", 0x0002_0000);
+    flag(b"all but persist", 0xFFFE_FFFF);
+    flag(b"all flags", 0xFFFF_FFFF);
+    flag(b"all but persist and reset", 0xFFFA_FFFF);
 }
 
-fn guid() {
+// The sample with these two halves of the GUID.
+fn guid(label: &[u8], low: u64, high: u64) {
     let mut b = [0u8; 1024];
     sample(&mut b);
-    b[0] = 0xEC;
-    show(b"GUID, first byte", &b, WHOLE, 0);
-    sample(&mut b);
-    b[15] = 0x2B;
-    show(b"GUID, last byte", &b, WHOLE, 0);
-    sample(&mut b);
-    b[7] = 0x4D;
-    show(b"GUID, byte 7", &b, WHOLE, 0);
+    put64(&mut b, 0, low);
+    put64(&mut b, 8, high);
+    show(label, &b, WHOLE, 0);
 }
 
-// Two faults at once: the lower number is the answer.
+fn guids() {
+    guid(
+        b"GUID, first byte",
+        0x4C44_E82D_6DCB_D5EC,
+        0x2AD9_9A19_9471_A1BD,
+    );
+    guid(
+        b"GUID, last byte",
+        0x4C44_E82D_6DCB_D5ED,
+        0x2BD9_9A19_9471_A1BD,
+    );
+    guid(
+        b"GUID, byte 7",
+        0x4D44_E82D_6DCB_D5ED,
+        0x2AD9_9A19_9471_A1BD,
+    );
+}
+
+// The sample, less its last byte or whole, with these flags, first word of the GUID, version of the body and of the first
+// payload.
+fn faults(label: &[u8], n: usize, flags: u32, word: u32, body: u32, version: u32, k: usize) {
+    let mut b = [0u8; 1024];
+    sample(&mut b);
+    put32(&mut b, 20, flags);
+    put32(&mut b, 0, word);
+    put32(&mut b, 28, body);
+    put32(&mut b, 68, version);
+    show(label, &b, n, k);
+}
+
+// Several faults at once: the lowest number is the answer.
 fn order() {
-    let mut b = [0u8; 1024];
-    sample(&mut b);
-    put32(&mut b, 20, 0x0004_0000);
-    b[0] = 0;
-    put32(&mut b, 28, 2);
-    put32(&mut b, 68, 0);
-    show(b"11 before 12", &b, 156, 9);
-    show(b"12 before 13", &b, WHOLE, 9);
-    put32(&mut b, 20, 0);
-    show(b"13 before 14", &b, WHOLE, 9);
-    b[0] = 0xED;
-    show(b"14 before 15", &b, WHOLE, 9);
-    put32(&mut b, 28, 1);
-    show(b"15 before 16", &b, WHOLE, 9);
-    show(b"15 for a driver", &b, WHOLE, 0);
-    show(b"15 for the sound payload", &b, WHOLE, 2);
-    put32(&mut b, 68, 1);
-    show(b"16 alone", &b, WHOLE, 9);
+    faults(b"11 before 12", 156, 0x0004_0000, 0, 2, 0, 9);
+    faults(b"12 before 13", WHOLE, 0x0004_0000, 0, 2, 0, 9);
+    faults(b"13 before 14", WHOLE, 0, 0, 2, 0, 9);
+    faults(b"14 before 15", WHOLE, 0, 0x6DCB_D5ED, 2, 0, 9);
+    faults(b"15 before 16", WHOLE, 0, 0x6DCB_D5ED, 1, 0, 9);
+    faults(b"15 for a driver", WHOLE, 0, 0x6DCB_D5ED, 1, 0, 0);
+    faults(b"15 for the sound payload", WHOLE, 0, 0x6DCB_D5ED, 1, 0, 2);
+    faults(b"16 alone", WHOLE, 0, 0x6DCB_D5ED, 1, 1, 9);
 }
 
-fn body() {
+// A capsule of n bytes with no items.
+fn bare(label: &[u8], version: u32, total: u32, n: usize) {
     let mut b = [0u8; 1024];
-    header(&mut b, 28, 0, 35);
-    counts(&mut b, 28, 1, 0, 0);
-    show(b"body of 7", &b, 35, 0);
-    put32(&mut b, 24, 36);
-    show(b"body of 8, no items", &b, 36, 0);
-    put32(&mut b, 24, 37);
-    show(b"body of 9, no items", &b, 37, 0);
-    put32(&mut b, 28, 0);
-    show(b"body version 0", &b, 37, 0);
-    put32(&mut b, 28, 2);
-    show(b"body version 2", &b, 37, 0);
-    put32(&mut b, 28, 0x0100_0001);
-    show(b"body version 2^24 + 1", &b, 37, 0);
+    header(&mut b, 28, 0, total);
+    counts(&mut b, 28, version, 0, 0);
+    show(label, &b, n, 0);
+}
+
+fn bodies() {
+    bare(b"body of 7", 1, 35, 35);
+    bare(b"body of 8, no items", 1, 36, 36);
+    bare(b"body of 9, no items", 1, 37, 37);
+    bare(b"body version 0", 0, 37, 37);
+    bare(b"body version 2", 2, 37, 37);
+    bare(b"body version 2^24 + 1", 0x0100_0001, 37, 37);
 }
 
 // Offsets of n drivers of one byte each, right behind the list.
@@ -254,116 +277,111 @@ fn drivers(b: &mut [u8; 1024], n: u8) {
     }
 }
 
-fn many() {
+// n such drivers, with these counts, which may say otherwise; and item k.
+fn many(label: &[u8], n: u8, drivers_said: u16, payloads_said: u16, k: usize) {
     let mut b = [0u8; 1024];
-    header(&mut b, 28, 0, 612);
-    counts(&mut b, 28, 1, 64, 0);
-    drivers(&mut b, 64);
-    show(b"64 items, the first", &b, 612, 0);
-    show(b"64 items, the last", &b, 612, 63);
-    show(b"64 items, item 64", &b, 612, 64);
-    header(&mut b, 28, 0, 621);
-    counts(&mut b, 28, 1, 65, 0);
-    drivers(&mut b, 65);
-    show(b"65 items", &b, 621, 0);
-    counts(&mut b, 28, 1, 65535, 1);
-    show(b"counts 65535 and 1", &b, 621, 0);
-    counts(&mut b, 28, 1, 1, 65535);
-    show(b"counts 1 and 65535", &b, 621, 0);
-    counts(&mut b, 28, 1, 32, 33);
-    show(b"counts 32 and 33", &b, 621, 0);
+    let total = 36 + 9 * (n as u32);
+    header(&mut b, 28, 0, total);
+    counts(&mut b, 28, 1, drivers_said, payloads_said);
+    drivers(&mut b, n);
+    show(label, &b, total as usize, k);
 }
 
-fn offsets() {
+fn numbers() {
+    many(b"64 items, the first", 64, 64, 0, 0);
+    many(b"64 items, the last", 64, 64, 0, 63);
+    many(b"64 items, item 64", 64, 64, 0, 64);
+    many(b"65 items", 65, 65, 0, 0);
+    many(b"counts 65535 and 1", 65, 65535, 1, 0);
+    many(b"counts 1 and 65535", 65, 1, 65535, 0);
+    many(b"counts 32 and 33", 65, 32, 33, 0);
+}
+
+// Two drivers at these offsets in a body of 32 bytes, whose list ends at 24; and item k.
+fn pair(label: &[u8], first: u64, second: u64, k: usize) {
     let mut b = [0u8; 1024];
     header(&mut b, 28, 0, 60);
     counts(&mut b, 28, 1, 2, 0);
-    put64(&mut b, 36, 24);
-    put64(&mut b, 44, 31);
-    show(
+    put64(&mut b, 36, first);
+    put64(&mut b, 44, second);
+    show(label, &b, 60, k);
+}
+
+fn offsets() {
+    pair(
         b"offsets at the list's end and one below the length",
-        &b,
-        60,
+        24,
+        31,
         0,
     );
-    show(b"the last item, of one byte", &b, 60, 1);
-    put64(&mut b, 36, 23);
-    show(b"offset one below the list's end", &b, 60, 0);
+    pair(b"the last item, of one byte", 24, 31, 1);
+    pair(b"offset one below the list's end", 23, 31, 0);
+    pair(b"offset at the body's length", 24, 32, 0);
+    pair(b"offset equal to the one before", 24, 24, 0);
+    pair(b"offset one above the one before", 24, 25, 0);
+    pair(b"offset below the one before", 26, 25, 0);
+    pair(b"offset 2^64 - 1", 24, 0xFFFF_FFFF_FFFF_FFFF, 0);
+    pair(b"offset 2^32 + 25", 24, 0x0000_0001_0000_0019, 0);
+}
+
+fn cut_list() {
+    let mut b = [0u8; 1024];
+    header(&mut b, 28, 0, 51);
+    counts(&mut b, 28, 1, 2, 0);
     put64(&mut b, 36, 24);
-    put64(&mut b, 44, 32);
-    show(b"offset at the body's length", &b, 60, 0);
-    put64(&mut b, 44, 24);
-    show(b"offset equal to the one before", &b, 60, 0);
-    put64(&mut b, 44, 25);
-    show(b"offset one above the one before", &b, 60, 0);
-    put64(&mut b, 36, 26);
-    show(b"offset below the one before", &b, 60, 0);
-    put64(&mut b, 36, 24);
-    put64(&mut b, 44, 0xFFFF_FFFF_FFFF_FFFF);
-    show(b"offset 2^64 - 1", &b, 60, 0);
-    put64(&mut b, 44, 0x0000_0001_0000_0019);
-    show(b"offset 2^32 + 25", &b, 60, 0);
-    put32(&mut b, 24, 51);
     show(b"list cut short by the body's end", &b, 51, 0);
 }
 
-// HeaderSize above 28 moves the body, and the offsets with it.
-fn moved() {
+// HeaderSize 40 moves the body, and this offset of its driver with it.
+fn moved(label: &[u8], offset: u64) {
     let mut b = [0u8; 1024];
     header(&mut b, 40, 0, 60);
     counts(&mut b, 40, 1, 1, 0);
-    put64(&mut b, 48, 16);
-    show(b"HeaderSize 40", &b, 60, 0);
-    put64(&mut b, 48, 19);
-    show(b"HeaderSize 40, last byte", &b, 60, 0);
-    put64(&mut b, 48, 20);
-    show(b"HeaderSize 40, past the body", &b, 60, 0);
+    put64(&mut b, 48, offset);
+    show(label, &b, 60, 0);
 }
 
-// One payload at 16 in the body, in a capsule of n bytes.
-fn single(b: &mut [u8; 1024], n: u32, version: u32, image: u32, vendor: u32) {
-    header(b, 28, 0, n);
-    counts(b, 28, 1, 0, 1);
-    put64(b, 36, 16);
-    payload(b, 44, version, image, vendor);
+fn moves() {
+    moved(b"HeaderSize 40", 16);
+    moved(b"HeaderSize 40, last byte", 19);
+    moved(b"HeaderSize 40, past the body", 20);
 }
 
-fn payloads() {
+// One payload, at 44 in a capsule of n bytes.
+fn single(label: &[u8], n: u32, version: u32, image: u32, vendor: u32) {
     let mut b = [0u8; 1024];
-    single(&mut b, 76, 1, 0, 0);
-    show(b"version 1, header to the item's end", &b, 76, 0);
-    single(&mut b, 75, 1, 0, 0);
-    show(b"version 1, header one byte too long", &b, 75, 0);
-    single(&mut b, 84, 2, 0, 0);
-    show(b"version 2, header to the item's end", &b, 84, 0);
-    single(&mut b, 83, 2, 0, 0);
-    show(b"version 2, header one byte too long", &b, 83, 0);
-    single(&mut b, 84, 0, 0, 0);
-    show(b"version 0", &b, 84, 0);
-    single(&mut b, 84, 3, 0, 0);
-    show(b"version 3", &b, 84, 0);
-    single(&mut b, 45, 1, 0, 0);
-    show(b"item of one byte", &b, 45, 0);
+    header(&mut b, 28, 0, n);
+    counts(&mut b, 28, 1, 0, 1);
+    put64(&mut b, 36, 16);
+    payload(&mut b, 44, version, image, vendor);
+    show(label, &b, n as usize, 0);
+}
+
+fn headers() {
+    single(b"version 1, header to the item's end", 76, 1, 0, 0);
+    single(b"version 1, header one byte too long", 75, 1, 0, 0);
+    single(b"version 2, header to the item's end", 84, 2, 0, 0);
+    single(b"version 2, header one byte too long", 83, 2, 0, 0);
+    single(b"version 0", 84, 0, 0, 0);
+    single(b"version 3", 84, 3, 0, 0);
+    single(b"item of one byte", 45, 1, 0, 0);
 }
 
 fn parts() {
-    let mut b = [0u8; 1024];
-    single(&mut b, 86, 1, 7, 3);
-    show(b"image and vendor code to the item's end", &b, 86, 0);
-    single(&mut b, 86, 1, 7, 4);
-    show(b"vendor code one byte too long", &b, 86, 0);
-    single(&mut b, 86, 1, 8, 3);
-    show(b"image one byte too long", &b, 86, 0);
-    single(&mut b, 86, 1, 0, 10);
-    show(b"no image", &b, 86, 0);
-    single(&mut b, 86, 1, 10, 0);
-    show(b"no vendor code", &b, 86, 0);
-    single(&mut b, 86, 1, 0xFFFF_FFFF, 1);
-    show(b"sizes that add up to 2^32", &b, 86, 0);
-    single(&mut b, 86, 1, 0xFFFF_FFE0, 0);
-    show(b"header and image that add up to 2^32", &b, 86, 0);
-    single(&mut b, 86, 1, 1, 0xFFFF_FFFF);
-    show(b"vendor code of 2^32 - 1", &b, 86, 0);
+    single(b"image and vendor code to the item's end", 86, 1, 7, 3);
+    single(b"vendor code one byte too long", 86, 1, 7, 4);
+    single(b"image one byte too long", 86, 1, 8, 3);
+    single(b"no image", 86, 1, 0, 10);
+    single(b"no vendor code", 86, 1, 10, 0);
+    single(b"sizes that add up to 2^32", 86, 1, 0xFFFF_FFFF, 1);
+    single(
+        b"header and image that add up to 2^32",
+        86,
+        1,
+        0xFFFF_FFE0,
+        0,
+    );
+    single(b"vendor code of 2^32 - 1", 86, 1, 1, 0xFFFF_FFFF);
 }
 
 fn main() {
@@ -371,15 +389,17 @@ fn main() {
         1,
         b"case\trefusal\tstart\tend\titem\timage\tvendor code\timage[0]\tguid[0]\tindex\tinstance\n",
     );
-    whole();
+    samples();
+    counted();
     sizes();
     flags();
-    guid();
+    guids();
     order();
-    body();
-    many();
+    bodies();
+    numbers();
     offsets();
-    moved();
-    payloads();
+    cut_list();
+    moves();
+    headers();
     parts();
 }
