@@ -67,3 +67,17 @@ pub fn same_guid(s: &[u8], a: usize, t: &[u8], b: usize) -> bool
     }
     read64(s, a + 8) == read64(t, b + 8)
 }
+
+// The GUID at `at`, by value.
+pub fn read_guid(s: &[u8], at: usize) -> [u8; 16]
+    requires { ⌜ at + 16 ≤ length (now s) ⌝ }
+    ensures { λ r. ⌜ r ≡ guid (now (s .entry)) at ⌝ }
+{
+    let mut g = [0u8; 16];
+    let mut i = 0;
+    while i < 16 {
+        g[i] = s[at + i];
+        i += 1;
+    }
+    g
+}

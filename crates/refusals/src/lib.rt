@@ -17,6 +17,20 @@ pub enum Refusal {
     TotalZero,
     // No start is free for the total.
     NoPlace,
+    // The capsule is below 28 bytes.
+    CapsuleShort,
+    // The capsule's HeaderSize or CapsuleImageSize is at fault.
+    CapsuleSizes,
+    // The capsule's flags are at fault.
+    CapsuleFlags,
+    // The capsule has another GUID.
+    CapsuleGuid,
+    // The capsule's body is below 8 bytes, or its version, count or offsets are at fault.
+    CapsuleBody,
+    // A payload of the capsule is at fault.
+    CapsulePayload,
+    // The capsule has no item of that number.
+    NoItem,
 }
 
 impl Refusal {
@@ -32,6 +46,13 @@ impl Refusal {
             Refusal::TotalLength => 5,
             Refusal::TotalZero => 6,
             Refusal::NoPlace => 7,
+            Refusal::CapsuleShort => 10,
+            Refusal::CapsuleSizes => 11,
+            Refusal::CapsuleFlags => 12,
+            Refusal::CapsuleGuid => 13,
+            Refusal::CapsuleBody => 14,
+            Refusal::CapsulePayload => 15,
+            Refusal::NoItem => 16,
         }
     }
 }

@@ -1,0 +1,38 @@
+-- `refusal` meets its contract: the item that was found tells the verdict. Assumes nothing.
+use borrow.Author.Needs.{needs}
+use mathlib.Core.Path.{_≡_, sym, ap, _∙_}
+use Rattle.capsule_check.proofs.Places.{told, told-judged}
+use Rattle.capsule.proofs.refusal.Statement.{statement}
+use Rattle.capsule.proofs.refusal.Tie as tie
+
+locate-requires : tie.Need-locate-requires
+locate-requires c κs = search needs
+
+enum-told : tie.Need-enum-told
+enum-told c = search needs
+
+enum-told-2 : tie.Need-enum-told-2
+enum-told-2 c = search needs
+
+enum-known-found : tie.Need-enum-known-found
+enum-known-found c = search needs
+
+returns : tie.Need-returns
+returns c =
+    let a = c .before .before .before .before .args in
+    rw (sym (c .before .before .locate .ensures) ∙ c .enum-told .given .1) at (told-judged (a .s .now) (a .k))
+
+returns-2 : tie.Need-returns-2
+returns-2 c =
+    let a = c .before .before .before .before .args in
+    rw (sym (c .before .before .locate .ensures) ∙ c .enum-told2 .given .1) at (told-judged (a .s .now) (a .k))
+
+returns-3 : tie.Need-returns-3
+returns-3 c =
+    let a = c .before .before .before .before .before .args in
+    rw (sym (c .before .before .before .locate .ensures) ∙ c .before .found .given .1) at (told-judged (a .s .now) (a .k))
+
+pub refusal-spec : {M : Type 1} → statement M
+refusal-spec =
+    tie.close
+    (tie.spec locate-requires enum-told enum-told-2 enum-known-found returns returns-2 returns-3)

@@ -1,0 +1,47 @@
+-- The parts of a capsule s that are handed out for an item (document 01, "The capsule"), i being where the item lies or the
+-- refusal. Assumes nothing.
+use Prim.Native.Nat.{ℕ, _+_}
+use mathlib.Core.Path.{_≡_}
+use mathlib.Core.List.{List}
+use denote.Ref.{RefT, ptr, now}
+use Rattle.capsule_check.specs.Body.{part}
+use Rattle.capsule_check.specs.Payload.{imageStart, imageEnd, vendorCodeEnd}
+use Rattle.capsule_check.specs.declared.Item.{Item}
+use Rattle.capsule_check.specs.declared.Item.the-variants.{Driver, Payload, Refused}
+
+-- the bytes of the capsule from start up to, not including, end
+pub record Range : Type 0 where
+  pub start : ℕ
+  pub end : ℕ
+
+abbrev pub range : ℕ → ℕ → Range
+range a e = record { start = a; end = e }
+
+-- "the part of the lent capsule itself": r is the part of s in the range, by its bytes and by its place in memory. ptr is a
+-- reference's pointer: .0 the block of memory, .1 the byte in it. So an empty part has a place too.
+pub record IsPart (s r : RefT (List ℕ)) (p : Range) : Type 0 where
+  pub bytes : now r ≡ part (now s) (p .start) (p .end)
+  pub block : ptr r .0 ≡ ptr s .0
+  pub place : ptr r .1 ≡ ptr s .1 + p .start
+
+-- "Where there is one, the part answered is the empty part at the capsule's start."
+abbrev pub none : Range
+none = range 0 0
+
+-- the whole item, of either kind
+abbrev pub itemPart : Item → Range
+itemPart (Driver a e) = range a e
+itemPart (Payload a e) = range a e
+itemPart (Refused r) = none
+
+-- "the whole item for a driver, the image .. for a payload". "32 or 40 bytes, then the image"
+abbrev pub imagePart : List ℕ → Item → Range
+imagePart s (Driver a e) = range a e
+imagePart s (Payload a e) = range (a + imageStart (part s a e)) (a + imageEnd (part s a e))
+imagePart s (Refused r) = none
+
+-- "A driver's vendor code is the empty part at its item's end." Of a payload: "the image, then the vendor code"
+abbrev pub vendorCodePart : List ℕ → Item → Range
+vendorCodePart s (Driver a e) = range e e
+vendorCodePart s (Payload a e) = range (a + imageEnd (part s a e)) (a + vendorCodeEnd (part s a e))
+vendorCodePart s (Refused r) = none

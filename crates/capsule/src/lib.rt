@@ -1,0 +1,163 @@
+// The items of a capsule: their parts, what is shown of them, and how many there are.
+// Every entry checks the whole capsule first and has no condition: a refused one answers the empty part at the capsule's
+// start, or zeros, and `refusal` says which refusal it was, or none, for the same capsule and item number.
+// Items are numbered from 0 in list order, drivers first.
+ghost use mathlib.Core.Path.{_≡_};
+ghost use mathlib.Core.Bool.{true};
+ghost use Prim.Native.Nat.{_≤_};
+ghost use lib.ListN.{length};
+ghost use Rattle.capsule_check.specs.Payload.{imageStart, imageEnd, vendorCodeEnd, payloadRight, imageIndex, hardwareInstance};
+ghost use Rattle.capsule_check.specs.Verdict.{judged};
+ghost use Rattle.capsule_check.specs.Item.{located};
+ghost use Rattle.capsule.specs.Parts.{IsPart, range, none, itemPart, imagePart, vendorCodePart};
+ghost use Rattle.capsule.specs.Shown.{typeGuidOf, imageIndexOf, hardwareInstanceOf};
+
+// The sister of all entries that take an item number: the refusal, 10 to 16, or none.
+pub fn refusal(s: &[u8], k: usize) -> capsule_check::Verdict
+    ensures { λ r. ⌜ r ≡ judged (now (s .entry)) k ⌝ }
+{
+    let found = capsule_check::locate(s, k);
+    match found {
+        capsule_check::Item::Driver { start: _, end: _ } => capsule_check::Verdict::Faultless,
+        capsule_check::Item::Payload { start: _, end: _ } => capsule_check::Verdict::Faultless,
+        capsule_check::Item::Refused(r) => capsule_check::Verdict::Refused(r),
+    }
+}
+
+// The part of s from a up to, not including, e.
+fn part_of(s: &[u8], a: usize, e: usize) -> &[u8]
+    requires { ⌜ (a ≤ e) × (e ≤ length (now s)) ⌝ }
+    ensures { λ r. ⌜ IsPart (s .entry) r (range a e) ⌝ }
+{
+    &s[a..e]
+}
+
+// What a refusal hands out: the empty part at the capsule's start.
+fn nothing(s: &[u8]) -> &[u8]
+    ensures { λ r. ⌜ IsPart (s .entry) r none ⌝ }
+{
+    part_of(s, 0, 0)
+}
+
+// The whole item k.
+pub fn item(s: &[u8], k: usize) -> &[u8]
+    ensures { λ r. ⌜ IsPart (s .entry) r (itemPart (located (now (s .entry)) k)) ⌝ }
+{
+    let found = capsule_check::locate(s, k);
+    match found {
+        capsule_check::Item::Driver { start, end } => part_of(s, start, end),
+        capsule_check::Item::Payload { start, end } => part_of(s, start, end),
+        capsule_check::Item::Refused(_) => nothing(s),
+    }
+}
+
+// Where a payload's image starts in its item.
+fn image_start(p: &[u8]) -> usize
+    requires { ⌜ payloadRight (now p) ≡ true ⌝ }
+    ensures { λ r. ⌜ r ≡ imageStart (now (p .entry)) ⌝ }
+{
+    capsule_check::header_length(fields::read32(p, 0))
+}
+
+// Where it ends there; the vendor code follows.
+fn image_end(p: &[u8]) -> usize
+    requires { ⌜ payloadRight (now p) ≡ true ⌝ }
+    ensures { λ r. ⌜ r ≡ imageEnd (now (p .entry)) ⌝ }
+{
+    image_start(p) + (fields::read32(p, 24) as usize)
+}
+
+// Where a payload's vendor code ends in its item.
+fn vendor_code_end(p: &[u8]) -> usize
+    requires { ⌜ payloadRight (now p) ≡ true ⌝ }
+    ensures { λ r. ⌜ r ≡ vendorCodeEnd (now (p .entry)) ⌝ }
+{
+    image_end(p) + (fields::read32(p, 28) as usize)
+}
+
+// The image of item k: a payload's image, and the whole item of a driver.
+pub fn image(s: &[u8], k: usize) -> &[u8]
+    ensures { λ r. ⌜ IsPart (s .entry) r (imagePart (now (s .entry)) (located (now (s .entry)) k)) ⌝ }
+{
+    let found = capsule_check::locate(s, k);
+    match found {
+        capsule_check::Item::Driver { start, end } => part_of(s, start, end),
+        capsule_check::Item::Payload { start, end } => {
+            let p = part_of(s, start, end);
+            let a = start + image_start(p);
+            let e = start + image_end(p);
+            part_of(s, a, e)
+        }
+        capsule_check::Item::Refused(_) => nothing(s),
+    }
+}
+
+// The vendor code of item k: a driver has an empty one at its end.
+pub fn vendor_code(s: &[u8], k: usize) -> &[u8]
+    ensures { λ r. ⌜ IsPart (s .entry) r (vendorCodePart (now (s .entry)) (located (now (s .entry)) k)) ⌝ }
+{
+    let found = capsule_check::locate(s, k);
+    match found {
+        capsule_check::Item::Driver { start: _, end } => part_of(s, end, end),
+        capsule_check::Item::Payload { start, end } => {
+            let p = part_of(s, start, end);
+            let a = start + image_end(p);
+            let e = start + vendor_code_end(p);
+            part_of(s, a, e)
+        }
+        capsule_check::Item::Refused(_) => nothing(s),
+    }
+}
+
+// The type GUID of payload item k.
+pub fn type_guid(s: &[u8], k: usize) -> [u8; 16]
+    ensures { λ r. ⌜ r ≡ typeGuidOf (now (s .entry)) (located (now (s .entry)) k) ⌝ }
+{
+    let found = capsule_check::locate(s, k);
+    match found {
+        capsule_check::Item::Payload { start, end } => fields::read_guid(part_of(s, start, end), 4),
+        capsule_check::Item::Driver { start: _, end: _ } => [0u8; 16],
+        capsule_check::Item::Refused(_) => [0u8; 16],
+    }
+}
+
+// The image index of payload item k.
+pub fn image_index(s: &[u8], k: usize) -> u8
+    ensures { λ r. ⌜ r ≡ imageIndexOf (now (s .entry)) (located (now (s .entry)) k) ⌝ }
+{
+    let found = capsule_check::locate(s, k);
+    match found {
+        capsule_check::Item::Payload { start, end } => index_of(part_of(s, start, end)),
+        capsule_check::Item::Driver { start: _, end: _ } => 0,
+        capsule_check::Item::Refused(_) => 0,
+    }
+}
+
+fn index_of(p: &[u8]) -> u8
+    requires { ⌜ payloadRight (now p) ≡ true ⌝ }
+    ensures { λ r. ⌜ r ≡ imageIndex (now (p .entry)) ⌝ }
+{
+    p[20]
+}
+
+// The hardware instance of payload item k; version 1 has none and shows 0.
+pub fn hardware_instance(s: &[u8], k: usize) -> u64
+    ensures { λ r. ⌜ r ≡ hardwareInstanceOf (now (s .entry)) (located (now (s .entry)) k) ⌝ }
+{
+    let found = capsule_check::locate(s, k);
+    match found {
+        capsule_check::Item::Payload { start, end } => instance_of(part_of(s, start, end)),
+        capsule_check::Item::Driver { start: _, end: _ } => 0,
+        capsule_check::Item::Refused(_) => 0,
+    }
+}
+
+fn instance_of(p: &[u8]) -> u64
+    requires { ⌜ payloadRight (now p) ≡ true ⌝ }
+    ensures { λ r. ⌜ r ≡ hardwareInstance (now (p .entry)) ⌝ }
+{
+    if fields::read32(p, 0) == 1 {
+        return 0;
+    }
+    fields::read64(p, 32)
+}

@@ -1,0 +1,2 @@
+-- The length of a part. Assumes nothing.
+pub mod Size

@@ -1,0 +1,9 @@
+-- The length of the part of a capsule s in a range. Assumes nothing.
+use Prim.Native.Nat.{ℕ}
+use mathlib.Core.List.{List}
+use lib.ListN.{length}
+use Rattle.capsule_check.specs.Body.{part}
+use Rattle.capsule.specs.Parts.{Range}
+
+abbrev pub sizeIn : List ℕ → Range → ℕ
+sizeIn s p = length (part s (p .start) (p .end))

@@ -1,0 +1,129 @@
+-- The definition of an item's place, at each way out, and what it says of the capsule. Assumes nothing.
+use mathlib.Core.Path.{_≡_, refl, sym, ap, _∙_}
+use mathlib.Core.Bool.{Bool, true, false}
+use mathlib.Core.List.{List}
+use Prim.Native.Nat.{ℕ, _+_, _-_, _<_, _≤_}
+use native.Mathlib.Omega.{arith}
+use borrow.Author.Tests.{ltb-true, ltb-false, lt-ltb, le-ltb}
+use lib.Dec.{ltb}
+use lib.ListN.{length, take, drop}
+use lib.Seq.{drop-drop}
+use Rattle.refusals.specs.declared.Refusal.{Refusal}
+use Rattle.refusals.specs.declared.Refusal.the-variants.{NoItem}
+use Rattle.capsule_check.specs.Header.{headerSize, body}
+use Rattle.capsule_check.specs.Payload.{payloadRight}
+use Rattle.capsule_check.specs.Body.{part, drivers, payloads, items, offset, itemEnd, payloadAt, payloadsRight}
+use Rattle.capsule_check.specs.Body.{item as itemBytes}
+use Rattle.capsule_check.proofs.Header.{header-in, body-length}
+use Rattle.capsule_check.proofs.Body.{all-at, item-in}
+use Rattle.capsule_check.specs.Verdict.{unless, after, verdict, judged}
+use Rattle.capsule_check.specs.Item.{itemStartIn, itemEndIn, kind, found, located}
+use Rattle.capsule_check.specs.declared.Verdict.{Verdict}
+use Rattle.capsule_check.specs.declared.Verdict.the-variants.{Faultless}
+use Rattle.capsule_check.specs.declared.Verdict.the-variants as Verdict
+use Rattle.capsule_check.specs.declared.Item.{Item}
+use Rattle.capsule_check.specs.declared.Item.the-variants.{Driver, Payload, Refused}
+use Rattle.capsule_check.proofs.Faultless.{faultless, Sound}
+
+module _ (s : List ℕ) (k : ℕ) where
+  pub located-refused : (r : Refusal) → verdict s ≡ Verdict.Refused r → located s k ≡ Refused r
+  unfolding located judged
+  located-refused r e = rw e
+
+  pub located-none : verdict s ≡ Faultless → items (body s) ≤ k → located s k ≡ Refused NoItem
+  unfolding located judged
+  located-none e h = rw (e, le-ltb k (items (body s)) h)
+
+  pub located-driver : verdict s ≡ Faultless → k < items (body s) → k < drivers (body s) → located s k ≡ Driver (itemStartIn s k) (itemEndIn s k)
+  unfolding located judged
+  located-driver e h d = rw (e, lt-ltb k (items (body s)) h, lt-ltb k (drivers (body s)) d)
+
+  pub located-payload : verdict s ≡ Faultless → k < items (body s) → drivers (body s) ≤ k → located s k ≡ Payload (itemStartIn s k) (itemEndIn s k)
+  unfolding located judged
+  located-payload e h d = rw (e, lt-ltb k (items (body s)) h, le-ltb k (drivers (body s)) d)
+
+-- where an item of a faultless capsule lies
+pub record Inside (s : List ℕ) (a e : ℕ) : Type 0 where
+  pub some : a < e
+  pub within : e ≤ length s
+
+module _ (s : List ℕ) (k : ℕ) (sound : Sound s) (lt : k < items (body s)) where
+  pub item-inside : Inside s (itemStartIn s k) (itemEndIn s k)
+  unfolding itemStartIn itemEndIn
+  item-inside =
+      let i = item-in (body s) (sound .offsets) k lt in
+      record { some = omega arith; within = omega (arith, body-length s (sound .sizes)) }
+
+  -- its bytes are the item's
+  pub item-is : part s (itemStartIn s k) (itemEndIn s k) ≡ itemBytes (body s) k
+  unfolding itemStartIn itemEndIn itemBytes body
+  item-is =
+      let h = headerSize s in
+      let b = drop h s in
+      let n : h + itemEnd b k - (h + offset b k) ≡ itemEnd b k - offset b k = omega arith in
+      rw (n, drop-drop (offset b k) h s)
+
+-- ---- the definition, turned round: what an answer says of the capsule
+-- the verdict that an answer carries
+abbrev pub told : Item → Verdict
+told (Driver a e) = Faultless
+told (Payload a e) = Faultless
+told (Refused r) = Verdict.Refused r
+
+pub told-judged : (s : List ℕ) (k : ℕ) → told (located s k) ≡ judged s k
+unfolding located
+told-judged s k = go (judged s k) (ltb k (drivers (body s)))
+  where
+    go : (v : Verdict) (d : Bool) → told (found v (kind d (itemStartIn s k) (itemEndIn s k))) ≡ v
+    go Faultless true = refl
+    go Faultless false = refl
+    go (Verdict.Refused r) d = refl
+
+-- what holds of an item that was found: it lies in the capsule, and a payload is right
+pub Holds : List ℕ → Item → Type 0
+Holds s (Driver a e) = Inside s a e
+Holds s (Payload a e) = Inside s a e × (payloadRight (part s a e) ≡ true)
+Holds s (Refused r) = Unit
+
+payload-right : (s : List ℕ) (k : ℕ) → Sound s → k < items (body s) → drivers (body s) ≤ k → payloadRight (part s (itemStartIn s k) (itemEndIn s k)) ≡ true
+unfolding payloadsRight payloadAt
+payload-right s k sound lt low =
+    let b = body s in
+    let j = k - drivers b in
+    let e : drivers b + j ≡ k = omega arith in
+    rw (item-is s k sound lt) (rw e at (all-at (payloadAt b) (payloads b) j (sound .payloads) (omega arith)))
+
+pub holds : (s : List ℕ) (k : ℕ) → Holds s (located s k)
+unfolding located judged Holds
+holds s k = go (verdict s) refl
+  where
+    kinds : Sound s → k < items (body s) → (d : Bool) → ltb k (drivers (body s)) ≡ d → Holds s (kind d (itemStartIn s k) (itemEndIn s k))
+    kinds sound lt true q = item-inside s k sound lt
+    kinds sound lt false q = (item-inside s k sound lt, payload-right s k sound lt (ltb-false k (drivers (body s)) q))
+
+    numbers : Sound s → (t : Bool) → ltb k (items (body s)) ≡ t
+        → Holds s (found (unless t NoItem Faultless) (kind (ltb k (drivers (body s))) (itemStartIn s k) (itemEndIn s k)))
+    numbers sound true q = kinds sound (ltb-true k (items (body s)) q) (ltb k (drivers (body s))) refl
+    numbers sound false q = tt
+
+    go : (v : Verdict) → verdict s ≡ v
+        → Holds s (found (after v (unless (ltb k (items (body s))) NoItem Faultless)) (kind (ltb k (drivers (body s))) (itemStartIn s k) (itemEndIn s k)))
+    go Faultless e = numbers (faultless s e) (ltb k (items (body s))) refl
+    go (Verdict.Refused r) e = tt
+
+module _ (s : List ℕ) (k a e : ℕ) where
+  pub driver-inside : located s k ≡ Driver a e → (a ≤ e) × (e ≤ length s)
+  unfolding Holds
+  driver-inside q =
+      let i : Inside s a e = rw q at (holds s k) in
+      (omega arith, i .within)
+
+  pub payload-inside : located s k ≡ Payload a e → (a ≤ e) × (e ≤ length s)
+  unfolding Holds
+  payload-inside q =
+      let i : Inside s a e = (rw q at (holds s k)) .0 in
+      (omega arith, i .within)
+
+  pub payload-holds : located s k ≡ Payload a e → payloadRight (part s a e) ≡ true
+  unfolding Holds
+  payload-holds q = (rw q at (holds s k)) .1

@@ -1,0 +1,44 @@
+-- The verdict on a capsule s, and on a capsule with an item number (document 01, "When the bench says no", 10 to 16).
+-- Assumes nothing.
+use Prim.Native.Nat.{ℕ}
+use mathlib.Core.Bool.{Bool, true, false}
+use mathlib.Core.List.{List}
+use lib.Dec.{leb, ltb}
+use lib.ListN.{length}
+use Rattle.refusals.specs.declared.Refusal.{Refusal}
+use Rattle.refusals.specs.declared.Refusal.the-variants.{CapsuleShort, CapsuleSizes, CapsuleFlags, CapsuleGuid, CapsuleBody, CapsulePayload, NoItem}
+use Rattle.refusals.specs.Number.{numberOf}
+use Rattle.capsule_check.specs.Header.{headerLeast, sizesRight, flags, flagsRight, guidRight, body}
+use Rattle.capsule_check.specs.Body.{items, bodyRight, payloadsRight}
+use Rattle.capsule_check.specs.declared.Verdict.{Verdict}
+use Rattle.capsule_check.specs.declared.Verdict.the-variants.{Faultless, Refused}
+
+-- the refusal r where the test fails, else what the rest says
+abbrev pub unless : Bool → Refusal → Verdict → Verdict
+unless true r rest = rest
+unless false r rest = Refused r
+
+-- "10: capsule below 28 bytes"; "11, 12, 13: sizes; flags; GUID"; "14: body below 8 bytes, its version, count or offsets";
+-- "15: a payload at fault". "Order: .. within capsules by number."
+unfoldable pub verdict : List ℕ → Verdict
+verdict s =
+    unless (leb headerLeast (length s)) CapsuleShort
+    (unless (sizesRight s) CapsuleSizes
+    (unless (flagsRight (flags s)) CapsuleFlags
+    (unless (guidRight s) CapsuleGuid
+    (unless (bodyRight (body s)) CapsuleBody
+    (unless (payloadsRight (body s)) CapsulePayload Faultless)))))
+
+-- a refusal stands; what is faultless goes on to the next verdict
+abbrev pub after : Verdict → Verdict → Verdict
+after Faultless next = next
+after (Refused r) next = Refused r
+
+-- "16: no item of that number." "Items are numbered from 0 in list order." 16 comes last, so of a faultless capsule alone.
+unfoldable pub judged : List ℕ → ℕ → Verdict
+judged s k = after (verdict s) (unless (ltb k (items (body s))) NoItem Faultless)
+
+-- the number of a verdict's refusal ("a sister entry gives the refusal number, or none"); 0, which numbers no refusal, is none
+abbrev pub verdictNumber : Verdict → ℕ
+verdictNumber Faultless = 0
+verdictNumber (Refused r) = numberOf r
