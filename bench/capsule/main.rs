@@ -3,23 +3,23 @@
 mod second;
 
 extern "C" {
-    fn capsule_refusal(s: *const u8, len: usize, k: usize) -> u32;
-    fn capsule_item_length(s: *const u8, len: usize, k: usize) -> usize;
-    fn capsule_image_length(s: *const u8, len: usize, k: usize) -> usize;
-    fn capsule_vendor_code_length(s: *const u8, len: usize, k: usize) -> usize;
+    fn meanderpeg_capsule_refusal(s: *const u8, len: usize, k: usize) -> u32;
+    fn meanderpeg_capsule_item_length(s: *const u8, len: usize, k: usize) -> usize;
+    fn meanderpeg_capsule_image_length(s: *const u8, len: usize, k: usize) -> usize;
+    fn meanderpeg_capsule_vendor_code_length(s: *const u8, len: usize, k: usize) -> usize;
 }
 
 // The functions ask nothing of their callers, so a slice is all they need.
 fn refusal(s: &[u8], k: usize) -> u32 {
-    unsafe { capsule_refusal(s.as_ptr(), s.len(), k) }
+    unsafe { meanderpeg_capsule_refusal(s.as_ptr(), s.len(), k) }
 }
 
 fn lengths(s: &[u8], k: usize) -> [usize; 3] {
     unsafe {
         [
-            capsule_item_length(s.as_ptr(), s.len(), k),
-            capsule_image_length(s.as_ptr(), s.len(), k),
-            capsule_vendor_code_length(s.as_ptr(), s.len(), k),
+            meanderpeg_capsule_item_length(s.as_ptr(), s.len(), k),
+            meanderpeg_capsule_image_length(s.as_ptr(), s.len(), k),
+            meanderpeg_capsule_vendor_code_length(s.as_ptr(), s.len(), k),
         ]
     }
 }

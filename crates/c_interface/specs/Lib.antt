@@ -1,2 +1,3 @@
 -- What the exported functions answer, in numbers and lent memory alone. Assumes nothing.
 pub mod Gather
+pub mod Capsule

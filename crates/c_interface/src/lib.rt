@@ -2,7 +2,11 @@
 use gather::Gathered;
 ghost use mathlib.Core.Path.{_≡_};
 ghost use Rattle.gather.specs.Gather.{gathered};
+ghost use Rattle.capsule_check.specs.Verdict.{judged, verdictNumber};
+ghost use Rattle.capsule_check.specs.Item.{located};
+ghost use Rattle.capsule.specs.Parts.{itemPart, imagePart, vendorCodePart};
 ghost use Rattle.c_interface.specs.Gather.{Exported};
+ghost use Rattle.c_interface.specs.Capsule.{sizeIn};
 
 // Gathers as `gather::gather` does. Answers 0 and sets the place's address and the total, or answers the refusal's number
 // and alters nothing.
@@ -27,4 +31,34 @@ pub extern "C" fn meanderpeg_gather(
             0
         }
     }
+}
+
+// The number of the refusal for item k of a capsule, or 0 for none.
+#[no_mangle]
+pub extern "C" fn meanderpeg_capsule_refusal(s: &[u8], k: usize) -> u32
+    ensures { λ r. ⌜ r ≡ verdictNumber (judged (now (s .entry)) k) ⌝ }
+{
+    capsule::refusal(s, k).number()
+}
+
+// The lengths of item k, of its image and of its vendor code.
+#[no_mangle]
+pub extern "C" fn meanderpeg_capsule_item_length(s: &[u8], k: usize) -> usize
+    ensures { λ r. ⌜ r ≡ sizeIn (now (s .entry)) (itemPart (located (now (s .entry)) k)) ⌝ }
+{
+    capsule::item(s, k).len()
+}
+
+#[no_mangle]
+pub extern "C" fn meanderpeg_capsule_image_length(s: &[u8], k: usize) -> usize
+    ensures { λ r. ⌜ r ≡ sizeIn (now (s .entry)) (imagePart (now (s .entry)) (located (now (s .entry)) k)) ⌝ }
+{
+    capsule::image(s, k).len()
+}
+
+#[no_mangle]
+pub extern "C" fn meanderpeg_capsule_vendor_code_length(s: &[u8], k: usize) -> usize
+    ensures { λ r. ⌜ r ≡ sizeIn (now (s .entry)) (vendorCodePart (now (s .entry)) (located (now (s .entry)) k)) ⌝ }
+{
+    capsule::vendor_code(s, k).len()
 }

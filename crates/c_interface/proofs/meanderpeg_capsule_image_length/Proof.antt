@@ -2,8 +2,8 @@
 use borrow.Author.Needs.{needs}
 use mathlib.Core.Path.{ap}
 use lib.ListN.{length}
-use Rattle.capsule_c.proofs.capsule_image_length.Statement.{statement}
-use Rattle.capsule_c.proofs.capsule_image_length.Tie as tie
+use Rattle.c_interface.proofs.meanderpeg_capsule_image_length.Statement.{statement}
+use Rattle.c_interface.proofs.meanderpeg_capsule_image_length.Tie as tie
 
 image-requires : tie.Need-image-requires
 image-requires c κs = search needs
@@ -11,5 +11,5 @@ image-requires c κs = search needs
 returns : tie.Need-returns
 returns c = ap length (c .image .ensures .bytes)
 
-pub capsule-image-length-spec : {M : Type 1} → statement M
-capsule-image-length-spec = tie.close (tie.spec image-requires returns)
+pub meanderpeg-capsule-image-length-spec : {M : Type 1} → statement M
+meanderpeg-capsule-image-length-spec = tie.close (tie.spec image-requires returns)

@@ -2,8 +2,8 @@
 use borrow.Author.Needs.{needs}
 use mathlib.Core.Path.{ap}
 use lib.ListN.{length}
-use Rattle.capsule_c.proofs.capsule_item_length.Statement.{statement}
-use Rattle.capsule_c.proofs.capsule_item_length.Tie as tie
+use Rattle.c_interface.proofs.meanderpeg_capsule_item_length.Statement.{statement}
+use Rattle.c_interface.proofs.meanderpeg_capsule_item_length.Tie as tie
 
 item-requires : tie.Need-item-requires
 item-requires c κs = search needs
@@ -11,5 +11,5 @@ item-requires c κs = search needs
 returns : tie.Need-returns
 returns c = ap length (c .item .ensures .bytes)
 
-pub capsule-item-length-spec : {M : Type 1} → statement M
-capsule-item-length-spec = tie.close (tie.spec item-requires returns)
+pub meanderpeg-capsule-item-length-spec : {M : Type 1} → statement M
+meanderpeg-capsule-item-length-spec = tie.close (tie.spec item-requires returns)

@@ -2,8 +2,8 @@
 use borrow.Author.Needs.{needs}
 use mathlib.Core.Path.{ap}
 use lib.ListN.{length}
-use Rattle.capsule_c.proofs.capsule_vendor_code_length.Statement.{statement}
-use Rattle.capsule_c.proofs.capsule_vendor_code_length.Tie as tie
+use Rattle.c_interface.proofs.meanderpeg_capsule_vendor_code_length.Statement.{statement}
+use Rattle.c_interface.proofs.meanderpeg_capsule_vendor_code_length.Tie as tie
 
 vendor-code-requires : tie.Need-vendor-code-requires
 vendor-code-requires c κs = search needs
@@ -11,5 +11,5 @@ vendor-code-requires c κs = search needs
 returns : tie.Need-returns
 returns c = ap length (c .vendor-code .ensures .bytes)
 
-pub capsule-vendor-code-length-spec : {M : Type 1} → statement M
-capsule-vendor-code-length-spec = tie.close (tie.spec vendor-code-requires returns)
+pub meanderpeg-capsule-vendor-code-length-spec : {M : Type 1} → statement M
+meanderpeg-capsule-vendor-code-length-spec = tie.close (tie.spec vendor-code-requires returns)

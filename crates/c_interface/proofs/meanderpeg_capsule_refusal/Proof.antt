@@ -2,8 +2,8 @@
 use borrow.Author.Needs.{needs}
 use mathlib.Core.Path.{ap, _∙_}
 use Rattle.capsule_check.specs.Verdict.{verdictNumber}
-use Rattle.capsule_c.proofs.capsule_refusal.Statement.{statement}
-use Rattle.capsule_c.proofs.capsule_refusal.Tie as tie
+use Rattle.c_interface.proofs.meanderpeg_capsule_refusal.Statement.{statement}
+use Rattle.c_interface.proofs.meanderpeg_capsule_refusal.Tie as tie
 
 refusal-requires : tie.Need-refusal-requires
 refusal-requires c κs = search needs
@@ -14,5 +14,5 @@ number-requires c κs = search needs
 returns : tie.Need-returns
 returns c = c .number .ensures ∙ ap verdictNumber (c .before .refusal .ensures)
 
-pub capsule-refusal-spec : {M : Type 1} → statement M
-capsule-refusal-spec = tie.close (tie.spec refusal-requires number-requires returns)
+pub meanderpeg-capsule-refusal-spec : {M : Type 1} → statement M
+meanderpeg-capsule-refusal-spec = tie.close (tie.spec refusal-requires number-requires returns)

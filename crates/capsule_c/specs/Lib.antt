@@ -1,2 +1,0 @@
--- The length of a part. Assumes nothing.
-pub mod Size
