@@ -5,5 +5,5 @@ use lib.ListN.{length}
 use Rattle.capsule_check.specs.Body.{part}
 use Rattle.capsule.specs.Parts.{Range}
 
-abbrev pub sizeIn : List ℕ → Range → ℕ
-sizeIn s p = length (part s (p .start) (p .end))
+abbrev pub lengthIn : List ℕ → Range → ℕ
+lengthIn s p = length (part s (p .start) (p .end))

@@ -2,11 +2,11 @@
 use gather::Gathered;
 ghost use mathlib.Core.Path.{_≡_};
 ghost use Rattle.gather.specs.Gather.{gathered};
-ghost use Rattle.capsule_check.specs.Verdict.{judged, verdictNumber};
+ghost use Rattle.capsule_check.specs.Verdict.{refusalNumber};
 ghost use Rattle.capsule_check.specs.Item.{located};
 ghost use Rattle.capsule.specs.Parts.{itemPart, imagePart, vendorCodePart};
 ghost use Rattle.c_interface.specs.Gather.{Exported};
-ghost use Rattle.c_interface.specs.Capsule.{sizeIn};
+ghost use Rattle.c_interface.specs.Capsule.{lengthIn};
 
 // Gathers as `gather::gather` does. Answers 0 and sets the place's address and the total, or answers the refusal's number
 // and alters nothing.
@@ -33,10 +33,10 @@ pub extern "C" fn meanderpeg_gather(
     }
 }
 
-// The number of the refusal for item k of a capsule, or 0 for none.
+// The number of the refusal for item k of a capsule, or 0 for emptyAtStart.
 #[no_mangle]
 pub extern "C" fn meanderpeg_capsule_refusal(s: &[u8], k: usize) -> u32
-    ensures { λ r. ⌜ r ≡ verdictNumber (judged (now (s .entry)) k) ⌝ }
+    ensures { λ r. ⌜ r ≡ refusalNumber (now (s .entry)) k ⌝ }
 {
     capsule::refusal(s, k).number()
 }
@@ -44,21 +44,21 @@ pub extern "C" fn meanderpeg_capsule_refusal(s: &[u8], k: usize) -> u32
 // The lengths of item k, of its image and of its vendor code.
 #[no_mangle]
 pub extern "C" fn meanderpeg_capsule_item_length(s: &[u8], k: usize) -> usize
-    ensures { λ r. ⌜ r ≡ sizeIn (now (s .entry)) (itemPart (located (now (s .entry)) k)) ⌝ }
+    ensures { λ r. ⌜ r ≡ lengthIn (now (s .entry)) (itemPart (located (now (s .entry)) k)) ⌝ }
 {
     capsule::item(s, k).len()
 }
 
 #[no_mangle]
 pub extern "C" fn meanderpeg_capsule_image_length(s: &[u8], k: usize) -> usize
-    ensures { λ r. ⌜ r ≡ sizeIn (now (s .entry)) (imagePart (now (s .entry)) (located (now (s .entry)) k)) ⌝ }
+    ensures { λ r. ⌜ r ≡ lengthIn (now (s .entry)) (imagePart (now (s .entry)) (located (now (s .entry)) k)) ⌝ }
 {
     capsule::image(s, k).len()
 }
 
 #[no_mangle]
 pub extern "C" fn meanderpeg_capsule_vendor_code_length(s: &[u8], k: usize) -> usize
-    ensures { λ r. ⌜ r ≡ sizeIn (now (s .entry)) (vendorCodePart (now (s .entry)) (located (now (s .entry)) k)) ⌝ }
+    ensures { λ r. ⌜ r ≡ lengthIn (now (s .entry)) (vendorCodePart (now (s .entry)) (located (now (s .entry)) k)) ⌝ }
 {
     capsule::vendor_code(s, k).len()
 }

@@ -1,5 +1,5 @@
--- The parts of a capsule s that are handed out for an item (document 01, "The capsule"), i being where the item lies or the
--- refusal. Assumes nothing.
+-- The parts of a capsule that are handed out for an item (document 01, "The capsule"). An `Item` says where the item lies,
+-- from byte a of the capsule up to, not including, byte e, or the refusal. Assumes nothing.
 use Prim.Native.Nat.{ℕ, _+_}
 use mathlib.Core.Path.{_≡_}
 use mathlib.Core.List.{List}
@@ -17,31 +17,33 @@ pub record Range : Type 0 where
 abbrev pub range : ℕ → ℕ → Range
 range a e = record { start = a; end = e }
 
--- "the part of the lent capsule itself": r is the part of s in the range, by its bytes and by its place in memory. ptr is a
--- reference's pointer: .0 the block of memory, .1 the byte in it. So an empty part has a place too.
+-- "the part of the lent capsule itself": the slice r is the part of the slice s of bytes in the range, by its bytes and by
+-- its place in memory. ptr is a reference's pointer: .0 the block of memory, .1 the byte offset in it. So an empty part has a
+-- place too
 pub record IsPart (s r : RefT (List ℕ)) (p : Range) : Type 0 where
   pub bytes : now r ≡ part (now s) (p .start) (p .end)
   pub block : ptr r .0 ≡ ptr s .0
   pub place : ptr r .1 ≡ ptr s .1 + p .start
 
--- "Where there is one, the part answered is the empty part at the capsule's start."
-abbrev pub none : Range
-none = range 0 0
+-- "Where there is one" (a refusal), "the part answered is the empty part at the capsule's start."
+abbrev pub emptyAtStart : Range
+emptyAtStart = range 0 0
 
--- the whole item, of either kind
+-- the whole item, of either kind: "item, image and vendor code returned as parts" (docs/DECISIONS.md, C1)
 abbrev pub itemPart : Item → Range
 itemPart (Driver a e) = range a e
 itemPart (Payload a e) = range a e
-itemPart (Refused r) = none
+itemPart (Refused r) = emptyAtStart
 
--- "the whole item for a driver, the image .. for a payload". "32 or 40 bytes, then the image"
+-- "the whole item for a driver, the image and the vendor code for a payload": a driver's image is its whole item
+-- (docs/DECISIONS.md, C1). "32 or 40 bytes, then the image"
 abbrev pub imagePart : List ℕ → Item → Range
 imagePart s (Driver a e) = range a e
 imagePart s (Payload a e) = range (a + imageStart (part s a e)) (a + imageEnd (part s a e))
-imagePart s (Refused r) = none
+imagePart s (Refused r) = emptyAtStart
 
 -- "A driver's vendor code is the empty part at its item's end." Of a payload: "the image, then the vendor code"
 abbrev pub vendorCodePart : List ℕ → Item → Range
 vendorCodePart s (Driver a e) = range e e
 vendorCodePart s (Payload a e) = range (a + imageEnd (part s a e)) (a + vendorCodeEnd (part s a e))
-vendorCodePart s (Refused r) = none
+vendorCodePart s (Refused r) = emptyAtStart

@@ -1,5 +1,4 @@
--- The values that are shown of an item of a capsule s, i being where it lies or the refusal
--- (document 01, "The capsule": "Type GUID, index and instance are shown too: version 1 shows instance 0, a driver or a
+-- The values that are shown of an item of a capsule s; an `Item` says where it lies or the refusal (document 01, "The capsule": "Type GUID, index and instance are shown too: version 1 shows instance 0, a driver or a
 -- refusal all zeros."). Assumes nothing.
 use Prim.Native.Nat.{ℕ}
 use mathlib.Core.List.{List}

@@ -12,12 +12,13 @@ use Rattle.refusals.specs.declared.Refusal.{Refusal}
 use Rattle.refusals.specs.declared.Refusal.the-variants.{NoItem}
 use Rattle.capsule_check.specs.Header.{headerSize, body}
 use Rattle.capsule_check.specs.Payload.{payloadRight}
-use Rattle.capsule_check.specs.Body.{part, drivers, payloads, items, offset, itemEnd, payloadAt, payloadsRight}
+use Rattle.capsule_check.specs.Body.{part, drivers, payloads, items, offset, itemEnd}
+use Rattle.capsule_check.specs.Payload.{payloadAtRight, payloadsRight}
 use Rattle.capsule_check.specs.Body.{item as itemBytes}
 use Rattle.capsule_check.proofs.Header.{header-in, body-length}
 use Rattle.capsule_check.proofs.Body.{all-at, item-in}
-use Rattle.capsule_check.specs.Verdict.{unless, after, verdict, judged}
-use Rattle.capsule_check.specs.Item.{itemStartIn, itemEndIn, kind, found, located}
+use Rattle.capsule_check.specs.Verdict.{unless, after, verdict, itemVerdict}
+use Rattle.capsule_check.specs.Item.{itemStartIn, itemEndIn, itemOf, found, located}
 use Rattle.capsule_check.specs.declared.Verdict.{Verdict}
 use Rattle.capsule_check.specs.declared.Verdict.the-variants.{Faultless}
 use Rattle.capsule_check.specs.declared.Verdict.the-variants as Verdict
@@ -27,19 +28,19 @@ use Rattle.capsule_check.proofs.Faultless.{faultless, Sound}
 
 module _ (s : List ℕ) (k : ℕ) where
   pub located-refused : (r : Refusal) → verdict s ≡ Verdict.Refused r → located s k ≡ Refused r
-  unfolding located judged
+  unfolding located itemVerdict
   located-refused r e = rw e
 
   pub located-none : verdict s ≡ Faultless → items (body s) ≤ k → located s k ≡ Refused NoItem
-  unfolding located judged
+  unfolding located itemVerdict
   located-none e h = rw (e, le-ltb k (items (body s)) h)
 
   pub located-driver : verdict s ≡ Faultless → k < items (body s) → k < drivers (body s) → located s k ≡ Driver (itemStartIn s k) (itemEndIn s k)
-  unfolding located judged
+  unfolding located itemVerdict
   located-driver e h d = rw (e, lt-ltb k (items (body s)) h, lt-ltb k (drivers (body s)) d)
 
   pub located-payload : verdict s ≡ Faultless → k < items (body s) → drivers (body s) ≤ k → located s k ≡ Payload (itemStartIn s k) (itemEndIn s k)
-  unfolding located judged
+  unfolding located itemVerdict
   located-payload e h d = rw (e, lt-ltb k (items (body s)) h, le-ltb k (drivers (body s)) d)
 
 -- where an item of a faultless capsule lies
@@ -70,11 +71,11 @@ told (Driver a e) = Faultless
 told (Payload a e) = Faultless
 told (Refused r) = Verdict.Refused r
 
-pub told-judged : (s : List ℕ) (k : ℕ) → told (located s k) ≡ judged s k
+pub told-judged : (s : List ℕ) (k : ℕ) → told (located s k) ≡ itemVerdict s k
 unfolding located
-told-judged s k = go (judged s k) (ltb k (drivers (body s)))
+told-judged s k = go (itemVerdict s k) (ltb k (drivers (body s)))
   where
-    go : (v : Verdict) (d : Bool) → told (found v (kind d (itemStartIn s k) (itemEndIn s k))) ≡ v
+    go : (v : Verdict) (d : Bool) → told (found v (itemOf d (itemStartIn s k) (itemEndIn s k))) ≡ v
     go Faultless true = refl
     go Faultless false = refl
     go (Verdict.Refused r) d = refl
@@ -86,28 +87,28 @@ Holds s (Payload a e) = Inside s a e × (payloadRight (part s a e) ≡ true)
 Holds s (Refused r) = Unit
 
 payload-right : (s : List ℕ) (k : ℕ) → Sound s → k < items (body s) → drivers (body s) ≤ k → payloadRight (part s (itemStartIn s k) (itemEndIn s k)) ≡ true
-unfolding payloadsRight payloadAt
+unfolding payloadsRight payloadAtRight
 payload-right s k sound lt low =
     let b = body s in
     let j = k - drivers b in
     let e : drivers b + j ≡ k = omega arith in
-    rw (item-is s k sound lt) (rw e at (all-at (payloadAt b) (payloads b) j (sound .payloads) (omega arith)))
+    rw (item-is s k sound lt) (rw e at (all-at (payloadAtRight b) (payloads b) j (sound .payloads) (omega arith)))
 
 pub holds : (s : List ℕ) (k : ℕ) → Holds s (located s k)
-unfolding located judged Holds
+unfolding located itemVerdict Holds
 holds s k = go (verdict s) refl
   where
-    kinds : Sound s → k < items (body s) → (d : Bool) → ltb k (drivers (body s)) ≡ d → Holds s (kind d (itemStartIn s k) (itemEndIn s k))
+    kinds : Sound s → k < items (body s) → (d : Bool) → ltb k (drivers (body s)) ≡ d → Holds s (itemOf d (itemStartIn s k) (itemEndIn s k))
     kinds sound lt true q = item-inside s k sound lt
     kinds sound lt false q = (item-inside s k sound lt, payload-right s k sound lt (ltb-false k (drivers (body s)) q))
 
     numbers : Sound s → (t : Bool) → ltb k (items (body s)) ≡ t
-        → Holds s (found (unless t NoItem Faultless) (kind (ltb k (drivers (body s))) (itemStartIn s k) (itemEndIn s k)))
+        → Holds s (found (unless t NoItem Faultless) (itemOf (ltb k (drivers (body s))) (itemStartIn s k) (itemEndIn s k)))
     numbers sound true q = kinds sound (ltb-true k (items (body s)) q) (ltb k (drivers (body s))) refl
     numbers sound false q = tt
 
     go : (v : Verdict) → verdict s ≡ v
-        → Holds s (found (after v (unless (ltb k (items (body s))) NoItem Faultless)) (kind (ltb k (drivers (body s))) (itemStartIn s k) (itemEndIn s k)))
+        → Holds s (found (after v (unless (ltb k (items (body s))) NoItem Faultless)) (itemOf (ltb k (drivers (body s))) (itemStartIn s k) (itemEndIn s k)))
     go Faultless e = numbers (faultless s e) (ltb k (items (body s))) refl
     go (Verdict.Refused r) e = tt
 

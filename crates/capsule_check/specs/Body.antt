@@ -1,13 +1,13 @@
 -- The capsule's body (document 01, "The capsule", second paragraph), b being its bytes: the counts, the list of offsets
--- and the items. Counts, offsets and sums are whole numbers. Each field reads bytes past the end of b as 0; a body
--- below 8 bytes, or one in which the list does not fit, is at fault whatever it reads. Assumes nothing.
+-- and the items. Counts, offsets and sums are whole numbers. Each number reads bytes past the end of b as 0; a body below 8
+-- bytes is at fault whatever it reads, and so is one in which the list does not fit: no offset can lie at or after the list's
+-- end and below the body's length. Assumes nothing.
 use Prim.Native.Nat.{ℕ, zero, suc, _+_, _-_, _*_}
 use mathlib.Core.Bool.{Bool, true, cond, _&&_}
 use mathlib.Core.List.{List}
 use lib.Dec.{leb, ltb, eqb}
 use lib.ListN.{length, take, drop}
 use Rattle.fields.specs.Number.{le}
-use Rattle.capsule_check.specs.Payload.{payloadRight}
 
 -- the bytes of s from a up to, not including, e
 abbrev pub part : List ℕ → ℕ → ℕ → List ℕ
@@ -49,13 +49,13 @@ unfoldable pub offsetRight : List ℕ → ℕ → Bool
 offsetRight b k = leb (listEnd b) (offset b k) && ltb (offset b k) (length b) && rises b k
 
 -- "Items number 0 to 64."
-abbrev pub itemsMost : ℕ
-itemsMost = 64
+abbrev pub itemLimit : ℕ
+itemLimit = 64
 
 -- Refusal 14 is for a body where this fails: "body below 8 bytes, its version, count or offsets".
 unfoldable pub bodyRight : List ℕ → Bool
 bodyRight b =
-    leb 8 (length b) && eqb (bodyVersion b) 1 && leb (items b) itemsMost && all (offsetRight b) (items b)
+    leb 8 (length b) && eqb (bodyVersion b) 1 && leb (items b) itemLimit && all (offsetRight b) (items b)
 
 -- "An item ends where the next begins, or with the body."
 unfoldable pub itemEnd : List ℕ → ℕ → ℕ
@@ -64,12 +64,3 @@ itemEnd b k = cond (ltb (k + 1) (items b)) (offset b (k + 1)) (length b)
 -- the bytes of the whole item k
 unfoldable pub item : List ℕ → ℕ → List ℕ
 item b k = part b (offset b k) (itemEnd b k)
-
--- whether the payload j is right: "drivers first", so it is the item behind all drivers and j payloads
-unfoldable pub payloadAt : List ℕ → ℕ → Bool
-payloadAt b j = payloadRight (item b (drivers b + j))
-
--- Refusal 15 is for a body where this fails: "Every item is checked before any is handed out." A driver has no rule of
--- its own.
-unfoldable pub payloadsRight : List ℕ → Bool
-payloadsRight b = all (payloadAt b) (payloads b)

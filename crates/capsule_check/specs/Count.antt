@@ -1,5 +1,6 @@
 -- How many items of each kind a capsule s has: the counts of its body (document 01, "driver count and payload count"), for
--- a caller that walks its items. A refused capsule has none. Assumes nothing.
+-- a caller that goes through its items without trying for 16. A refused capsule counts 0, and the sister entry `refusal` gives its
+-- number, 10 to 15, for any item number. Assumes nothing.
 use Prim.Native.Nat.{ℕ}
 use mathlib.Core.List.{List}
 use Rattle.capsule_check.specs.Header.{body}

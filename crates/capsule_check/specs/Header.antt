@@ -1,5 +1,5 @@
 -- The capsule's header (document 01, "The capsule", first paragraph), in a capsule s. Sizes are whole numbers.
--- Each field reads bytes past the end of s as 0; what is said of a capsule below 28 bytes is refusal 10 alone.
+-- Each number reads bytes past the end of s as 0; what is said of a capsule below 28 bytes is refusal 10 alone.
 -- Assumes nothing.
 use Prim.Native.Nat.{ℕ, _/_, _%_}
 use mathlib.Core.Bool.{Bool, not, _&&_, _||_}

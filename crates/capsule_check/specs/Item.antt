@@ -1,12 +1,12 @@
--- Where item k of a capsule s lies, and of which kind it is (document 01, "The capsule"). Places are numbers of bytes from
--- the capsule's start. Assumes nothing.
+-- Where item k of a capsule s lies, and of which kind it is, or the refusal (document 01, "The capsule"). `Driver a e` and
+-- `Payload a e` are an item from byte a of the capsule up to, not including, byte e. Assumes nothing.
 use Prim.Native.Nat.{ℕ, _+_}
 use mathlib.Core.Bool.{Bool, true, false}
 use mathlib.Core.List.{List}
 use lib.Dec.{ltb}
 use Rattle.capsule_check.specs.Header.{headerSize, body}
 use Rattle.capsule_check.specs.Body.{drivers, offset, itemEnd}
-use Rattle.capsule_check.specs.Verdict.{judged}
+use Rattle.capsule_check.specs.Verdict.{itemVerdict}
 use Rattle.capsule_check.specs.declared.Verdict.{Verdict}
 use Rattle.capsule_check.specs.declared.Verdict.the-variants.{Faultless}
 use Rattle.capsule_check.specs.declared.Verdict.the-variants as Verdict
@@ -21,14 +21,15 @@ unfoldable pub itemEndIn : List ℕ → ℕ → ℕ
 itemEndIn s k = headerSize s + itemEnd (body s) k
 
 -- "drivers first"
-abbrev pub kind : Bool → ℕ → ℕ → Item
-kind true a e = Driver a e
-kind false a e = Payload a e
+abbrev pub itemOf : Bool → ℕ → ℕ → Item
+itemOf true a e = Driver a e
+itemOf false a e = Payload a e
 
 -- "Every item is checked before any is handed out."
 abbrev pub found : Verdict → Item → Item
 found Faultless i = i
 found (Verdict.Refused r) i = Refused r
 
+-- the item k, or the refusal that stands in its way
 unfoldable pub located : List ℕ → ℕ → Item
-located s k = found (judged s k) (kind (ltb k (drivers (body s))) (itemStartIn s k) (itemEndIn s k))
+located s k = found (itemVerdict s k) (itemOf (ltb k (drivers (body s))) (itemStartIn s k) (itemEndIn s k))

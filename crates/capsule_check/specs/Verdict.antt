@@ -9,7 +9,8 @@ use Rattle.refusals.specs.declared.Refusal.{Refusal}
 use Rattle.refusals.specs.declared.Refusal.the-variants.{CapsuleShort, CapsuleSizes, CapsuleFlags, CapsuleGuid, CapsuleBody, CapsulePayload, NoItem}
 use Rattle.refusals.specs.Number.{numberOf}
 use Rattle.capsule_check.specs.Header.{headerLeast, sizesRight, flags, flagsRight, guidRight, body}
-use Rattle.capsule_check.specs.Body.{items, bodyRight, payloadsRight}
+use Rattle.capsule_check.specs.Body.{items, bodyRight}
+use Rattle.capsule_check.specs.Payload.{payloadsRight}
 use Rattle.capsule_check.specs.declared.Verdict.{Verdict}
 use Rattle.capsule_check.specs.declared.Verdict.the-variants.{Faultless, Refused}
 
@@ -18,8 +19,8 @@ abbrev pub unless : Bool → Refusal → Verdict → Verdict
 unless true r rest = rest
 unless false r rest = Refused r
 
--- "10: capsule below 28 bytes"; "11, 12, 13: sizes; flags; GUID"; "14: body below 8 bytes, its version, count or offsets";
--- "15: a payload at fault". "Order: .. within capsules by number."
+-- 10, "capsule below 28 bytes"; 11, 12, 13, "sizes; flags; GUID"; 14, "body below 8 bytes, its version, count or offsets"; 15, "a
+-- payload at fault". "within capsules by number"
 unfoldable pub verdict : List ℕ → Verdict
 verdict s =
     unless (leb headerLeast (length s)) CapsuleShort
@@ -34,11 +35,15 @@ abbrev pub after : Verdict → Verdict → Verdict
 after Faultless next = next
 after (Refused r) next = Refused r
 
--- "16: no item of that number." "Items are numbered from 0 in list order." 16 comes last, so of a faultless capsule alone.
-unfoldable pub judged : List ℕ → ℕ → Verdict
-judged s k = after (verdict s) (unless (ltb k (items (body s))) NoItem Faultless)
+-- 16, "no item of that number". "Items are numbered from 0 in list order." 16 comes last, so of a faultless capsule alone
+unfoldable pub itemVerdict : List ℕ → ℕ → Verdict
+itemVerdict s k = after (verdict s) (unless (ltb k (items (body s))) NoItem Faultless)
 
--- the number of a verdict's refusal ("a sister entry gives the refusal number, or none"); 0, which numbers no refusal, is none
+-- what each case of a verdict states: the refusal's number; 0, which numbers no refusal, for none
 abbrev pub verdictNumber : Verdict → ℕ
 verdictNumber Faultless = 0
 verdictNumber (Refused r) = numberOf r
+
+-- "a sister entry gives the refusal number, or none, for the same input"
+abbrev pub refusalNumber : List ℕ → ℕ → ℕ
+refusalNumber s k = verdictNumber (itemVerdict s k)

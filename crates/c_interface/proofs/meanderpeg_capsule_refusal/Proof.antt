@@ -1,7 +1,6 @@
 -- `capsule_refusal` meets its contract. Assumes nothing.
 use borrow.Author.Needs.{needs}
-use mathlib.Core.Path.{ap, _∙_}
-use Rattle.capsule_check.specs.Verdict.{verdictNumber}
+use mathlib.Core.Path.{_∙_}
 use Rattle.c_interface.proofs.meanderpeg_capsule_refusal.Statement.{statement}
 use Rattle.c_interface.proofs.meanderpeg_capsule_refusal.Tie as tie
 
@@ -12,7 +11,7 @@ number-requires : tie.Need-number-requires
 number-requires c κs = search needs
 
 returns : tie.Need-returns
-returns c = c .number .ensures ∙ ap verdictNumber (c .before .refusal .ensures)
+returns c = c .number .ensures ∙ c .before .refusal .ensures
 
 pub meanderpeg-capsule-refusal-spec : {M : Type 1} → statement M
 meanderpeg-capsule-refusal-spec = tie.close (tie.spec refusal-requires number-requires returns)

@@ -1,6 +1,7 @@
 -- `refusal` meets its contract: the item that was found tells the verdict. Assumes nothing.
 use borrow.Author.Needs.{needs}
 use mathlib.Core.Path.{_≡_, sym, ap, _∙_}
+use Rattle.capsule_check.specs.Verdict.{verdictNumber}
 use Rattle.capsule_check.proofs.Places.{told, told-judged}
 use Rattle.capsule.proofs.refusal.Statement.{statement}
 use Rattle.capsule.proofs.refusal.Tie as tie
@@ -20,17 +21,17 @@ enum-known-found c = search needs
 returns : tie.Need-returns
 returns c =
     let a = c .before .before .before .before .args in
-    rw (sym (c .before .before .locate .ensures) ∙ c .enum-told .given .1) at (told-judged (a .s .now) (a .k))
+    ap verdictNumber (rw (sym (c .before .before .locate .ensures) ∙ c .enum-told .given .1) at (told-judged (a .s .now) (a .k)))
 
 returns-2 : tie.Need-returns-2
 returns-2 c =
     let a = c .before .before .before .before .args in
-    rw (sym (c .before .before .locate .ensures) ∙ c .enum-told2 .given .1) at (told-judged (a .s .now) (a .k))
+    ap verdictNumber (rw (sym (c .before .before .locate .ensures) ∙ c .enum-told2 .given .1) at (told-judged (a .s .now) (a .k)))
 
 returns-3 : tie.Need-returns-3
 returns-3 c =
     let a = c .before .before .before .before .before .args in
-    rw (sym (c .before .before .before .locate .ensures) ∙ c .before .found .given .1) at (told-judged (a .s .now) (a .k))
+    ap verdictNumber (rw (sym (c .before .before .before .locate .ensures) ∙ c .before .found .given .1) at (told-judged (a .s .now) (a .k)))
 
 pub refusal-spec : {M : Type 1} → statement M
 refusal-spec =

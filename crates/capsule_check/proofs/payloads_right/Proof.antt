@@ -8,13 +8,14 @@ use native.Mathlib.Omega.{arith}
 use borrow.Author.Tests.{not-true, not-false}
 use lib.ListN.{length}
 use Rattle.capsule_check.specs.Payload.{payloadRight}
-use Rattle.capsule_check.specs.Body.{all, drivers, payloads, item, payloadAt, payloadsRight}
+use Rattle.capsule_check.specs.Body.{all, drivers, payloads, item}
+use Rattle.capsule_check.specs.Payload.{payloadAtRight, payloadsRight}
 use Rattle.capsule_check.proofs.Body.{all-none, all-more, all-fails, all-whole, list-fits, few-items}
 use Rattle.capsule_check.proofs.payloads_right.Statement.{statement}
 use Rattle.capsule_check.proofs.payloads_right.Tie as tie
 
 abbrev Inv-loop : tie.InvT-loop
-Inv-loop b first count j₀ j = (j ≤ count) × (first ≡ drivers b) × (count ≡ payloads b) × (all (payloadAt b) j ≡ true)
+Inv-loop b first count j₀ j = (j ≤ count) × (first ≡ drivers b) × (count ≡ payloads b) × (all (payloadAtRight b) j ≡ true)
 
 abbrev μ-loop : tie.MeasureT-loop
 μ-loop b first count j₀ j = count - j
@@ -33,7 +34,7 @@ cast-count c = search needs
 
 loop-holds : tie.Need-loop-holds Inv-loop μ-loop
 unfolding drivers payloads
-loop-holds c = (omega arith, c .before .read16 .ensures, c .read162 .ensures, all-none (payloadAt (c .before .before .before .args .b .now)))
+loop-holds c = (omega arith, c .before .read16 .ensures, c .read162 .ensures, all-none (payloadAtRight (c .before .before .before .args .b .now)))
 
 add-item-bytes : tie.Need-add-item-bytes Inv-loop μ-loop
 add-item-bytes c =
@@ -56,8 +57,8 @@ payload-right-requires c κs = search needs
 -- what the call says of the payload at hand
 judged-at : (c : tie.After-payload-right Inv-loop μ-loop)
     → let l = c .before .before .before in
-    payloadAt (l .before .before .before .before .args .b .now) (l .loop .j) ≡ c .payload-right .result
-unfolding payloadAt
+    payloadAtRight (l .before .before .before .before .args .b .now) (l .loop .j) ≡ c .payload-right .result
+unfolding payloadAtRight
 judged-at c =
     let l = c .before .before .before in
     let b = l .before .before .before .before .args .b .now in
@@ -69,7 +70,7 @@ returns c =
     let l = c .before .before .before .before in
     let b = l .before .before .before .before .args .b .now in
     let r = c .before .payload-right in
-    sym (all-fails (payloadAt b) (payloads b) (l .loop .j) (omega arith) (judged-at (c .before) ∙ not-true (r .result) (c .if1 .taken)))
+    sym (all-fails (payloadAtRight b) (payloads b) (l .loop .j) (omega arith) (judged-at (c .before) ∙ not-true (r .result) (c .if1 .taken)))
 
 add-j : tie.Need-add-j Inv-loop μ-loop
 add-j c =
@@ -84,14 +85,14 @@ loop-again c =
     let l = c .before .before .before .before in
     let b = l .before .before .before .before .args .b .now in
     let r = c .before .payload-right in
-    (omega arith, l .loop .inv .1, l .loop .inv .2, all-more (payloadAt b) (l .loop .j) (l .loop .inv .3) (judged-at (c .before) ∙ not-false (r .result) (c .if1 .left)))
+    (omega arith, l .loop .inv .1, l .loop .inv .2, all-more (payloadAtRight b) (l .loop .j) (l .loop .inv .3) (judged-at (c .before) ∙ not-false (r .result) (c .if1 .left)))
 
 returns-2 : tie.Need-returns-2 Inv-loop μ-loop
 unfolding payloadsRight
 returns-2 c =
     let l = c .before in
     let b = l .before .before .before .before .args .b .now in
-    all-whole (payloadAt b) (l .loop .j) (payloads b) (l .loop .inv .3) (omega arith)
+    all-whole (payloadAtRight b) (l .loop .j) (payloads b) (l .loop .inv .3) (omega arith)
 
 pub payloads-right-spec : {M : Type 1} → statement M
 payloads-right-spec =
