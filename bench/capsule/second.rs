@@ -1,5 +1,5 @@
-// A second version of the capsule's rules, written from document 01 alone and for the comparison only: whole numbers, no
-// care for speed.
+// A second version of the capsule's rules, written from the text of document 01 for the comparison only. It shares no code
+// with the crates: whole numbers, no care for speed.
 
 fn number(s: &[u8], at: usize, width: usize) -> u128 {
     s[at..at + width].iter().rev().fold(0, |n, b| n * 256 + *b as u128)

@@ -1,4 +1,4 @@
-// The items of a capsule: their parts, what is shown of them, and how many there are.
+// The items of a capsule: their parts, and what is shown of them.
 // Every entry checks the whole capsule first and has no condition: a refused one answers the empty part at the capsule's
 // start, or zeros, and `refusal` says which refusal it was, or emptyAtStart, for the same capsule and item number.
 // Items are numbered from 0 in list order, drivers first.

@@ -42,7 +42,8 @@ part-of-requires : tie.Need-part-of-requires
 part-of-requires c κs =
     let a = c .before .before .before .before .before .args in
     let g = c .before .found .given .0 in
-    (omega arith, driver-inside (a .s .now) (a .k) (g .0) (g .1 .0) (found (c .before)) .1)
+    let h = driver-inside (a .s .now) (a .k) (g .0) (g .1 .0) (found (c .before)) in
+    omega arith
 
 enum-known-found-2 : tie.Need-enum-known-found-2
 enum-known-found-2 c = search needs
