@@ -6,9 +6,10 @@ use lib.Dec.{leb}
 use Rattle.fields.specs.Number.{le}
 use mathlib.Core.List.{List}
 use mathlib.Core.Path.{_≡_}
-use lib.ListN.{length}
+use lib.ListN.{length, take, drop}
 use Rattle.record.specs.Layout.{imageLimit, bankLimit, bankCount, imageCount, recordSize, bankEntryAt}
 use Rattle.record.specs.Every.{below}
+use Rattle.record.specs.Rules.{rules, each}
 
 pub record Sized (r : List ℕ) (banks images : ℕ) : Type 0 where
   pub banks-is : bankCount r ≡ banks
@@ -22,3 +23,10 @@ pub record Sized (r : List ℕ) (banks images : ℕ) : Type 0 where
 -- in each bank of image i, the word at `from` in the bank's entry is at most `limit`
 unfoldable pub bankWords : List ℕ → (banks from limit i : ℕ) → Bool
 bankWords r banks from limit i = below banks (λ b. leb (le 4 r (bankEntryAt banks i b + from)) limit)
+
+-- the rules on which the length rests, 1 to 6, and those behind them, 7 to 14
+unfoldable pub firstSix : List ℕ → Bool
+firstSix r = each (take 6 rules) r
+
+unfoldable pub lastEight : List ℕ → Bool
+lastEight r = each (drop 6 rules) r
