@@ -2,3 +2,4 @@
 pub mod Sizes
 pub mod Below
 pub mod Sound
+pub mod Copies

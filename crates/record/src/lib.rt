@@ -13,7 +13,7 @@ pub const HEADER: usize = 40;
 pub const IMAGE_LIMIT: u16 = 32;
 
 // The record in a copy: as many bytes as its size says, and the header in any case.
-pub fn record(c: &[u8]) -> &[u8]
+pub fn record_in(c: &[u8]) -> &[u8]
     requires { ⌜ 40 ≤ length (now c) ⌝ }
     ensures { λ r. ⌜ now r ≡ recordOf (now (c .entry)) ⌝ }
 {

@@ -1,4 +1,4 @@
--- `record` meets its contract. Assumes nothing.
+-- `record_in` meets its contract. Assumes nothing.
 use native.Mathlib.Nat.{sub-zero}
 use lib.Seq.{take-all}
 use mathlib.Core.Path.{_≡_, refl, sym, ap, _∙_}
@@ -6,8 +6,8 @@ use borrow.Author.Tests.{le-leb, lt-leb, le-ltb, lt-ltb, eq-eqb, ne-eqb}
 use native.Mathlib.Omega.{arith}
 use borrow.Author.Needs.{needs}
 use Rattle.record.specs.Layout.{recordOf}
-use Rattle.record.proofs.record.Statement.{statement}
-use Rattle.record.proofs.record.Tie as tie
+use Rattle.record.proofs.record_in.Statement.{statement}
+use Rattle.record.proofs.record_in.Tie as tie
 
 read32-requires : tie.Need-read32-requires
 read32-requires c κs = search needs
@@ -47,8 +47,8 @@ returns-3 : tie.Need-returns-3
 unfolding recordOf
 returns-3 c = rw (← c .before .before .before .read32 .ensures, le-leb _ _ (c .before .before .if1 .left), sub-zero)
 
-pub record-spec : {M : Type 1} → statement M
-record-spec =
+pub record-in-spec : {M : Type 1} → statement M
+record-in-spec =
     tie.close
     (tie.spec
     read32-requires
