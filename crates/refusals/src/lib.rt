@@ -17,6 +17,14 @@ pub enum Refusal {
     TotalZero,
     // No start is free for the total.
     NoPlace,
+    // The area is not 16,384 bytes.
+    AreaLength,
+    // No copy is sound.
+    NoSoundCopy,
+    // The store slice is too short.
+    StoreSlice,
+    // The booted bank is at or past the bank count.
+    BootedBank,
 }
 
 impl Refusal {
@@ -32,6 +40,10 @@ impl Refusal {
             Refusal::TotalLength => 5,
             Refusal::TotalZero => 6,
             Refusal::NoPlace => 7,
+            Refusal::AreaLength => 20,
+            Refusal::NoSoundCopy => 21,
+            Refusal::StoreSlice => 23,
+            Refusal::BootedBank => 28,
         }
     }
 }
