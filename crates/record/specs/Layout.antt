@@ -1,6 +1,6 @@
 -- Record version 2: where each field stands (document 01, "The record"). r is the bytes of a record, the first at offset 0. Sizes,
 -- limits and offsets stand here and nowhere else in the definitions. Assumes nothing.
-use Prim.Native.Nat.{ℕ, _+_, _*_}
+use Prim.Native.Nat.{ℕ, _+_, _*_, _%_}
 use mathlib.Core.Bool.{cond}
 use mathlib.Core.List.{List}
 use lib.Dec.{leb}
@@ -120,3 +120,7 @@ copy0 a = take copySize a
 
 abbrev pub copy1 : List ℕ → List ℕ
 copy1 a = take copySize (drop copySize a)
+
+-- "the update bank is (active + 1) mod banks"
+abbrev pub updateBank : (banks active : ℕ) → ℕ
+updateBank banks active = (active + 1) % banks
