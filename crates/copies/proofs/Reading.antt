@@ -10,7 +10,6 @@ use Rattle.copies.specs.Copies.{sourceOf}
 use Rattle.copies.specs.declared.Source.{Source}
 use Rattle.copies.specs.declared.Source.the-variants.{Copy0, Copy1, Neither}
 
-
 first : (x y : Bool) → cond x Copy0 (cond y Copy1 Neither) ≡ Copy0 → x ≡ true
 first true y e = refl
 first false true e = let z : _≡_ {A = ℕ} 0 1 = cc in absurd (omega arith)

@@ -9,6 +9,7 @@ ghost use Rattle.copies.specs.Copies.{sourceOf, recordsEqual};
 
 // The sizes of an area and of a copy.
 pub const AREA: usize = 16384;
+
 pub const COPY: usize = 8192;
 
 // The copy that is read.

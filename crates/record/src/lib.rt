@@ -10,6 +10,7 @@ ghost use Rattle.record.specs.Rules.{versionRule, bankCountRule, imageCo
 
 // The header's length, and the most images that a record may have.
 pub const HEADER: usize = 40;
+
 pub const IMAGE_LIMIT: u16 = 32;
 
 // The record in a copy: as many bytes as its size says, and the header in any case.

@@ -50,7 +50,7 @@ loop-again c =
     let a = l .before .before .args in (
       omega arith,
       below-more (bankWords (a .r .now) (a .banks) (a .from) (a .limit)) (l .loop .i) (l .loop .inv .1)
-      (sym (c .before .bank-words .ensures) ∙ not-false _ (c .if1 .left)),
+          (sym (c .before .bank-words .ensures) ∙ not-false _ (c .if1 .left)),
     )
 
 returns-2 : tie.Need-returns-2 Inv-loop μ-loop

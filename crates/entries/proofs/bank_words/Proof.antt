@@ -80,7 +80,7 @@ loop-again c =
     let a = l .before .before .before .args in (
       omega arith,
       below-more (test (a .r .now) (a .banks) (a .from) (a .limit) (a .i)) (l .loop .b) (l .loop .inv .1)
-      (rw (← l .before .entry-at .ensures .0, ← g .read32 .ensures) (le-leb _ _ (c .if1 .left))),
+          (rw (← l .before .entry-at .ensures .0, ← g .read32 .ensures) (le-leb _ _ (c .if1 .left))),
     )
 
 returns-2 : tie.Need-returns-2 Inv-loop μ-loop

@@ -43,8 +43,7 @@ returns-2 c =
     let g = p .before .before in
     let s = g .before .before .before .before .before .before in
     let a = s .args in
-    let ne : le 4 (a .c .now) (a .o) ≡ le 4 (a .r .now) (a .o) → ⊥ = λ e. g .if1 .left (g .before .read322 .ensures ∙ e ∙ sym (g .before .before .read32 .ensures)) in
-    (
+    let ne : le 4 (a .c .now) (a .o) ≡ le 4 (a .r .now) (a .o) → ⊥ = λ e. g .if1 .left (g .before .read322 .ensures ∙ e ∙ sym (g .before .before .read32 .ensures)) in (
       rw (stored-differs (a .base) (a .c .now) (a .r .now) (a .o) ne, ← g .before .before .read32 .ensures) (p .put-pair .ensures),
       omega (arith, p .put-pair .ensures .count),
     )

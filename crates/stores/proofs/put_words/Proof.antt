@@ -53,7 +53,7 @@ loop-again c =
       omega (arith, s .pre .words),
       e .0 .kept ∙ i .3,
       added-more (a .base) (a .c .now) (a .r .now) (a .k) (l .loop .j) (q .put-differing .result) (l .loop .o) (a .out .now) (l .loop .out) (q .put-differing .last .1 .1 .1 .0)
-      (i .0) (i .1) (i .4) (e .0),
+          (i .0) (i .1) (i .4) (e .0),
       omega arith,
     )
 
