@@ -31,6 +31,14 @@ pub enum Refusal {
     CapsulePayload,
     // The capsule has no item of that number.
     NoItem,
+    // The area is not 16,384 bytes.
+    AreaLength,
+    // No copy is sound.
+    NoSoundCopy,
+    // The store slice is too short.
+    StoreSlice,
+    // The booted bank is at or past the bank count.
+    BootedBank,
 }
 
 impl Refusal {
@@ -53,6 +61,10 @@ impl Refusal {
             Refusal::CapsuleBody => 14,
             Refusal::CapsulePayload => 15,
             Refusal::NoItem => 16,
+            Refusal::AreaLength => 20,
+            Refusal::NoSoundCopy => 21,
+            Refusal::StoreSlice => 23,
+            Refusal::BootedBank => 28,
         }
     }
 }

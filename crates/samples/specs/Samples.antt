@@ -1,4 +1,4 @@
--- The starred samples of document 01 ("Samples on the rail") whose definitions stand, 1 to 7, as one table under a single claim. A sample
+-- The starred samples of document 01 ("Samples on the rail") whose definitions stand, 1 to 7 and 9 to 11, as one table under a single claim. A sample
 -- of another kind joins as one more constructor of `Sample`, one more line of `holds` and its rows. Assumes nothing.
 use Prim.Native.Nat.{ℕ, _-_, _^_}
 use mathlib.Core.Bool.{Bool, true, false, _&&_}
@@ -10,6 +10,8 @@ use Rattle.descriptors.specs.Window.{within}
 use Rattle.descriptors.specs.Reading.{lengthOf, addressOf, descriptorFits, withDescriptor, jumpOrEnd, dataBlock, walk, reading}
 use Rattle.place.specs.Place.{apart, clearOf, clearOfAll, free, lowest, placeFor}
 use Rattle.gather.specs.Gather.{Answer, refusal, place, block, blocks, copiedTo, finished, gathered}
+use Rattle.crc.specs.Crc.{step, steps, withByte, withBytes, crc32Of}
+use Rattle.record.specs.Layout.{recordSize, updateBank}
 use Rattle.samples.specs.Windows.{descriptors, window}
 
 -- whether two answers are the same
@@ -22,10 +24,19 @@ same (place b u) (place a t) = eqb b a && eqb u t
 pub data Sample : Type 0 where
   -- Length and Address of the descriptors at the window's start, and what gathering from there answers
   gathering : List (ℕ × ℕ) → Answer → Sample
+  -- bytes, and their CRC
+  checksum : List ℕ → ℕ → Sample
+  -- how many banks and images, and the record's size
+  recordSized : (banks images : ℕ) → ℕ → Sample
+  -- how many banks, the active one, and the update bank
+  updating : (banks active : ℕ) → ℕ → Sample
 
 unfoldable pub holds : Sample → Bool
 unfolding same window gathered
 holds (gathering pairs answer) = same (gathered (window pairs) 0x1000 0x1000 .0) answer
+holds (checksum bytes crc) = eqb (crc32Of bytes) crc
+holds (recordSized banks images size) = eqb (recordSize banks images) size
+holds (updating banks active bank) = eqb (updateBank banks active) bank
 
 unfoldable pub all : List Sample → Bool
 all [] = true
@@ -47,8 +58,17 @@ table =
     ∷ gathering ((0, 0x1000) ∷ []) (refusal 2)
     ∷ gathering [] (refusal 6)
     ∷ gathering ((2 ^ 64 - 1, 0x1040) ∷ []) (refusal 4)
+    -- 9. the ASCII bytes 123456789
+    ∷ checksum (49 ∷ 50 ∷ 51 ∷ 52 ∷ 53 ∷ 54 ∷ 55 ∷ 56 ∷ 57 ∷ []) 0xCBF43926
+    -- 10. 2 banks, 1 image; 2 and 3; 4 and 32
+    ∷ recordSized 2 1 120
+    ∷ recordSized 2 3 280
+    ∷ recordSized 4 32 4136
+    -- 11. 2 banks, active 0; 3 banks, active 2
+    ∷ updating 2 0 1
+    ∷ updating 3 2 0
     ∷ []
 
 pub samples : all table ≡ true
-unfolding all holds same window descriptors bytes le put within lengthOf addressOf descriptorFits withDescriptor jumpOrEnd dataBlock walk reading apart clearOf clearOfAll free lowest placeFor block blocks copiedTo finished gathered
+unfolding all holds same step steps withByte withBytes crc32Of window descriptors bytes le put within lengthOf addressOf descriptorFits withDescriptor jumpOrEnd dataBlock walk reading apart clearOf clearOfAll free lowest placeFor block blocks copiedTo finished gathered
 samples = refl

@@ -1,0 +1,2 @@
+-- Laws about the copies, for the crates above.
+pub mod Reading

@@ -1,0 +1,2 @@
+-- The two copies of the record. Assumes nothing.
+pub mod Copies

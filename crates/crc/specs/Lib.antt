@@ -1,0 +1,2 @@
+-- CRC-32. Assumes nothing.
+pub mod Crc

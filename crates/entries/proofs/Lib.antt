@@ -1,0 +1,2 @@
+-- Laws about the rules on entries, for the proofs here.
+pub mod Words

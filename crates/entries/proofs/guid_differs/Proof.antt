@@ -1,0 +1,96 @@
+-- `guid_differs` meets its contract. The loop's invariant: the type GUIDs below j differ from that of image i. Assumes nothing.
+use lib.ListN.{length, getD}
+use mathlib.Core.List.{List}
+use lib.Dec.{eqb, leb, ltb}
+use mathlib.Core.Bool.{Bool, true, false, not, cond, _&&_, _||_}
+use Prim.Native.Nat.{ℕ, _+_, _*_, _-_, _≤_, _<_}
+use mathlib.Core.Path.{_≡_, refl, sym, ap, _∙_}
+use native.Mathlib.Omega.{arith}
+use borrow.Author.Tests.{le-leb, lt-leb, le-ltb, lt-ltb, eq-eqb, ne-eqb}
+use borrow.Author.Needs.{needs}
+use Rattle.record.specs.Every.{below}
+use Rattle.record.proofs.Below.{below-none, below-more, below-stop, below-same}
+use Rattle.record.specs.Sized.{Sized, bankWords}
+use Rattle.record.proofs.Sizes.{bank-in, guid-in, header-in}
+use Rattle.fields.specs.Number.{le}
+use Rattle.record.specs.Layout.{entryAt}
+use Rattle.fields.specs.Guid.{guid, same}
+use Rattle.entries.proofs.guid_differs.Statement.{statement}
+use Rattle.entries.proofs.guid_differs.Tie as tie
+
+abbrev test : List ℕ → (banks i j : ℕ) → Bool
+test r banks i j = not (same (guid r (entryAt banks j)) (guid r (entryAt banks i)))
+
+abbrev Inv-loop : tie.InvT-loop
+Inv-loop r banks images i at j₀ j = (j ≤ i) × (below j (test r banks i) ≡ true)
+
+abbrev μ-loop : tie.MeasureT-loop
+μ-loop r banks images i at j₀ j = i - j
+
+entry-at-requires : tie.Need-entry-at-requires Inv-loop μ-loop
+entry-at-requires c κs = search needs
+
+loop-holds : tie.Need-loop-holds Inv-loop μ-loop
+loop-holds c =
+    let a = c .before .before .args in
+    (omega arith, below-none (test (a .r .now) (a .banks) (a .i)))
+
+entry-at-requires-2 : tie.Need-entry-at-requires-2 Inv-loop μ-loop
+entry-at-requires-2 c κs = search needs
+
+same-guid-requires : tie.Need-same-guid-requires Inv-loop μ-loop
+same-guid-requires c κs =
+    let l = c .before .before in
+    let s = l .before .before .before in
+    let a = s .args in (
+      rw (c .entry-at2 .ensures .0) (guid-in (a .r .now) (a .banks) (a .images) (l .loop .j) (s .pre .0) (omega arith)),
+      rw (l .before .entry-at .ensures .0) (guid-in (a .r .now) (a .banks) (a .images) (a .i) (s .pre .0) (s .pre .1)),
+    )
+
+-- what the comparison answered
+tested : (c : tie.After-same-guid Inv-loop μ-loop)
+    → let l = c .before .before .before in let a = l .before .before .before .args in
+    c .same-guid .result ≡ same (guid (a .r .now) (entryAt (a .banks) (l .loop .j))) (guid (a .r .now) (entryAt (a .banks) (a .i)))
+tested c = rw (← c .before .entry-at2 .ensures .0, ← c .before .before .before .before .entry-at .ensures .0) (c .same-guid .ensures)
+
+returns : tie.Need-returns Inv-loop μ-loop
+returns c =
+    let l = c .before .before .before .before in
+    let a = l .before .before .before .args in
+    sym (below-stop (test (a .r .now) (a .banks) (a .i)) (a .i) (l .loop .j) (c .before .before .before .loop-test .taken) (ap not (sym (tested (c .before)) ∙ c .if1 .taken)))
+
+add-j : tie.Need-add-j Inv-loop μ-loop
+add-j c = omega arith
+
+loop-less : tie.Need-loop-less Inv-loop μ-loop
+loop-less c = omega arith
+
+loop-again : tie.Need-loop-again Inv-loop μ-loop
+loop-again c =
+    let l = c .before .before .before .before in
+    let a = l .before .before .before .args in (
+      omega arith,
+      below-more (test (a .r .now) (a .banks) (a .i)) (l .loop .j) (l .loop .inv .1) (ap not (sym (tested (c .before)) ∙ c .if1 .left)),
+    )
+
+returns-2 : tie.Need-returns-2 Inv-loop μ-loop
+returns-2 c =
+    let l = c .before in
+    let e : l .loop .j ≡ l .before .before .before .args .i = omega arith in
+    sym (rw e at (l .loop .inv .1))
+
+pub guid-differs-spec : {M : Type 1} → statement M
+guid-differs-spec =
+    tie.close
+    (tie.spec
+    Inv-loop
+    μ-loop
+    entry-at-requires
+    loop-holds
+    entry-at-requires-2
+    same-guid-requires
+    returns
+    add-j
+    loop-less
+    loop-again
+    returns-2)

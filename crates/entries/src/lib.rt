@@ -1,0 +1,178 @@
+// The rules on a record's image entries and bank states (document 01, "The record": rules 8, 10, 11, 12 and 13). The
+// counts and the length have been tested (`Sized`) before anything here reads an entry.
+use fields::read16;
+use fields::read32;
+use fields::same_guid;
+use record::entry_at;
+ghost use mathlib.Core.Path.{_≡_};
+ghost use mathlib.Core.Bool.{not};
+ghost use Prim.Native.Nat.{_≤_, _<_};
+ghost use Rattle.fields.specs.Guid.{guid, same};
+ghost use Rattle.fields.specs.Number.{le};
+ghost use Rattle.record.specs.Every.{below};
+ghost use Rattle.record.specs.Layout.{entryAt};
+ghost use Rattle.record.specs.Rules.{reservedRule, acceptedRule, typeGuidsRule, stateRight, statesRule, allAccepted, bankRight, banksRule};
+ghost use Rattle.record.specs.Sized.{Sized, bankWords};
+
+// Whether, in each bank of image i, the word at `from` in the bank's entry is at most `limit`.
+fn bank_words(r: &[u8], banks: usize, images: usize, i: usize, from: usize, limit: u32) -> bool
+    requires { ⌜ Sized (now r) banks images × (i < images) × (from ≤ 20) ⌝ }
+    ensures { λ x. ⌜ x ≡ bankWords (now (r .entry)) banks from limit i ⌝ }
+{
+    let at = entry_at(banks, i);
+    let mut b = 0;
+    while b < banks {
+        if limit < read32(r, at + 32 + 24 * b + from) {
+            return false;
+        }
+        b += 1;
+    }
+    true
+}
+
+// The same for every image.
+fn all_words(r: &[u8], banks: usize, images: usize, from: usize, limit: u32) -> bool
+    requires { ⌜ Sized (now r) banks images × (from ≤ 20) ⌝ }
+    ensures { λ x. ⌜ x ≡ below images (bankWords (now (r .entry)) banks from limit) ⌝ }
+{
+    let mut i = 0;
+    while i < images {
+        if !bank_words(r, banks, images, i, from, limit) {
+            return false;
+        }
+        i += 1;
+    }
+    true
+}
+
+// Rule 8.
+pub fn reserved_rule(r: &[u8], banks: usize, images: usize) -> bool
+    requires { ⌜ Sized (now r) banks images ⌝ }
+    ensures { λ x. ⌜ x ≡ reservedRule (now (r .entry)) ⌝ }
+{
+    if read16(r, 22) != 0 {
+        return false;
+    }
+    if read32(r, 28) != 0 {
+        return false;
+    }
+    if r[33] != 0 {
+        return false;
+    }
+    all_words(r, banks, images, 20, 0)
+}
+
+// Rule 10.
+pub fn accepted_rule(r: &[u8], banks: usize, images: usize) -> bool
+    requires { ⌜ Sized (now r) banks images ⌝ }
+    ensures { λ x. ⌜ x ≡ acceptedRule (now (r .entry)) ⌝ }
+{
+    all_words(r, banks, images, 16, 1)
+}
+
+// Whether the type GUID of image i differs from those before it.
+fn guid_differs(r: &[u8], banks: usize, images: usize, i: usize) -> bool
+    requires { ⌜ Sized (now r) banks images × (i < images) ⌝ }
+    ensures { λ x. ⌜ x ≡ below i (λ j. not (same (guid (now (r .entry)) (entryAt banks j)) (guid (now (r .entry)) (entryAt banks i)))) ⌝ }
+{
+    let at = entry_at(banks, i);
+    let mut j = 0;
+    while j < i {
+        if same_guid(r, entry_at(banks, j), r, at) {
+            return false;
+        }
+        j += 1;
+    }
+    true
+}
+
+// Rule 11.
+pub fn type_guids_rule(r: &[u8], banks: usize, images: usize) -> bool
+    requires { ⌜ Sized (now r) banks images ⌝ }
+    ensures { λ x. ⌜ x ≡ typeGuidsRule (now (r .entry)) ⌝ }
+{
+    let mut i = 0;
+    while i < images {
+        if !guid_differs(r, banks, images, i) {
+            return false;
+        }
+        i += 1;
+    }
+    true
+}
+
+// Whether s may be the state of bank b.
+fn state_right(banks: usize, b: usize, s: u8) -> bool
+    ensures { λ x. ⌜ x ≡ stateRight banks b s ⌝ }
+{
+    if s == 255 {
+        return true;
+    }
+    if banks <= b {
+        return false;
+    }
+    if s == 254 {
+        return true;
+    }
+    s == 252
+}
+
+// Rule 12.
+pub fn states_rule(r: &[u8], banks: usize, images: usize) -> bool
+    requires { ⌜ Sized (now r) banks images ⌝ }
+    ensures { λ x. ⌜ x ≡ statesRule (now (r .entry)) ⌝ }
+{
+    let mut b = 0;
+    while b < 4 {
+        if !state_right(banks, b, r[24 + b]) {
+            return false;
+        }
+        b += 1;
+    }
+    true
+}
+
+// Whether every image of bank b is accepted.
+pub fn all_accepted(r: &[u8], banks: usize, images: usize, b: usize) -> bool
+    requires { ⌜ Sized (now r) banks images × (b < banks) ⌝ }
+    ensures { λ x. ⌜ x ≡ allAccepted (now (r .entry)) b ⌝ }
+{
+    let mut i = 0;
+    while i < images {
+        if read32(r, entry_at(banks, i) + 32 + 24 * b + 16) != 1 {
+            return false;
+        }
+        i += 1;
+    }
+    true
+}
+
+// Whether the state of bank b fits what is accepted there.
+fn bank_right(r: &[u8], banks: usize, images: usize, b: usize) -> bool
+    requires { ⌜ Sized (now r) banks images × (b < banks) ⌝ }
+    ensures { λ x. ⌜ x ≡ bankRight (now (r .entry)) b ⌝ }
+{
+    let s = r[24 + b];
+    if s == 252 {
+        return all_accepted(r, banks, images, b);
+    }
+    if s == 254 {
+        return !all_accepted(r, banks, images, b);
+    }
+    true
+}
+
+// Rule 13, where the active bank exists.
+pub fn banks_rule(r: &[u8], banks: usize, images: usize, active: usize) -> bool
+    requires { ⌜ Sized (now r) banks images × (active < banks) × (active ≡ le 4 (now r) 8) ⌝ }
+    ensures { λ x. ⌜ x ≡ banksRule (now (r .entry)) ⌝ }
+{
+    let mut b = 0;
+    while b < banks {
+        if !bank_right(r, banks, images, b) {
+            return false;
+        }
+        b += 1;
+    }
+    r[24 + active] != 255
+}

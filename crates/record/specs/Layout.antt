@@ -1,0 +1,126 @@
+-- Record version 2: where each field stands (document 01, "The record"). r is the bytes of a record, the first at offset 0. Sizes,
+-- limits and offsets stand here and nowhere else in the definitions. Assumes nothing.
+use Prim.Native.Nat.{ℕ, _+_, _*_, _%_}
+use mathlib.Core.Bool.{cond}
+use mathlib.Core.List.{List}
+use lib.Dec.{leb}
+use lib.ListN.{take, drop, getD}
+use Rattle.fields.specs.Number.{le}
+use Rattle.fields.specs.Guid.{guid}
+
+-- "An area is 16,384 bytes: copy 0 at 0, copy 1 at 8,192."
+abbrev pub areaSize : ℕ
+areaSize = 16384
+
+abbrev pub copySize : ℕ
+copySize = 8192
+
+-- "Entries start at 40"
+abbrev pub headerSize : ℕ
+headerSize = 40
+
+-- "images 1 to 32"
+abbrev pub imageLimit : ℕ
+imageLimit = 32
+
+-- "banks 2 to 4", and as many bank-state bytes
+abbrev pub bankLimit : ℕ
+bankLimit = 4
+
+-- "crc_32 at 0, version 4, active 8, previous 12, size 16 (32 bits each)"
+abbrev pub crc : List ℕ → ℕ
+crc r = le 4 r 0
+
+abbrev pub version : List ℕ → ℕ
+version r = le 4 r 4
+
+abbrev pub active : List ℕ → ℕ
+active r = le 4 r 8
+
+abbrev pub previous : List ℕ → ℕ
+previous r = le 4 r 12
+
+abbrev pub size : List ℕ → ℕ
+size r = le 4 r 16
+
+-- "descriptor offset 20 (16 bits, 32); reserved 22 (16 bits)"
+abbrev pub descriptorOffset : List ℕ → ℕ
+descriptorOffset r = le 2 r 20
+
+abbrev pub reserved22 : List ℕ → ℕ
+reserved22 r = le 2 r 22
+
+-- "four bank-state bytes at 24"
+abbrev pub stateAt : ℕ → ℕ
+stateAt b = 24 + b
+
+abbrev pub state : List ℕ → ℕ → ℕ
+state r b = getD r (stateAt b) 0
+
+-- "reserved 28 (32 bits); bank count 32 (byte); reserved 33"
+abbrev pub reserved28 : List ℕ → ℕ
+reserved28 r = le 4 r 28
+
+abbrev pub bankCount : List ℕ → ℕ
+bankCount r = getD r 32 0
+
+abbrev pub reserved33 : List ℕ → ℕ
+reserved33 r = getD r 33 0
+
+-- "image count 34, image entry size 36, bank entry size 38 (16 bits each)"
+abbrev pub imageCount : List ℕ → ℕ
+imageCount r = le 2 r 34
+
+abbrev pub imageEntrySize : List ℕ → ℕ
+imageEntrySize r = le 2 r 36
+
+abbrev pub bankEntrySize : List ℕ → ℕ
+bankEntrySize r = le 2 r 38
+
+-- "type GUID, location GUID, then per bank 24 bytes": how long an image's entry is for that many banks
+abbrev pub entrySize : ℕ → ℕ
+entrySize banks = 32 + 24 * banks
+
+-- "size 40 + images x entry size"
+abbrev pub recordSize : ℕ → ℕ → ℕ
+recordSize banks images = headerSize + images * entrySize banks
+
+-- "Entries start at 40": the entry of image i
+abbrev pub entryAt : ℕ → ℕ → ℕ
+entryAt banks i = headerSize + i * entrySize banks
+
+-- its type GUID comes first
+abbrev pub typeGuid : List ℕ → ℕ → List ℕ
+typeGuid r i = guid r (entryAt (bankCount r) i)
+
+-- "per bank 24 bytes of image GUID, accepted (32 bits), reserved (32 bits)"
+abbrev pub bankEntryAt : ℕ → ℕ → ℕ → ℕ
+bankEntryAt banks i b = entryAt banks i + 32 + 24 * b
+
+abbrev pub acceptedAt : ℕ → ℕ → ℕ → ℕ
+acceptedAt banks i b = bankEntryAt banks i b + 16
+
+abbrev pub reservedAt : ℕ → ℕ → ℕ → ℕ
+reservedAt banks i b = bankEntryAt banks i b + 20
+
+abbrev pub accepted : List ℕ → ℕ → ℕ → ℕ
+accepted r i b = le 4 r (acceptedAt (bankCount r) i b)
+
+abbrev pub reserved : List ℕ → ℕ → ℕ → ℕ
+reserved r i b = le 4 r (reservedAt (bankCount r) i b)
+
+-- the record in a copy: as many bytes as its size says, and the header in any case, so that its fields can be judged. Where the size is
+-- right it is never below the header's
+unfoldable pub recordOf : List ℕ → List ℕ
+recordOf c = take (cond (leb headerSize (size c)) (size c) headerSize) c
+
+-- "copy 0 at 0, copy 1 at 8,192"
+abbrev pub copy0 : List ℕ → List ℕ
+copy0 a = take copySize a
+
+abbrev pub copy1 : List ℕ → List ℕ
+copy1 a = take copySize (drop copySize a)
+
+-- "the update bank is (active + 1) mod banks"
+abbrev pub updateBank : (banks active : ℕ) → ℕ
+updateBank banks active = (active + 1) % banks

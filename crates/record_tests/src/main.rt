@@ -1,0 +1,263 @@
+// Start-up and repair on areas that break each of the fourteen rules alone, at both ends of its limit, in copy 0, in copy 1
+// and in both; and on document 01's samples. A line a case: its name, then for each area the session or the refusal's
+// number, the count of repair's stores, and what a second repair lists once they are done.
+mod areas;
+mod faults;
+
+use areas::build;
+use areas::seal;
+use session::Answer;
+use session::Session;
+use session::Verdict;
+
+fn text(t: &[u8]) {
+    io::write_all(1, t);
+}
+
+fn show_session(s: Session) {
+    match s {
+        Session::Regular => text(b"Regular"),
+        Session::Staging { bank: _, set: _ } => text(b"Staging"),
+        Session::Trial => text(b"Trial"),
+        Session::Fallback => text(b"Fallback"),
+        Session::Restart => text(b"Restart"),
+    }
+}
+
+fn show_start(r: Answer) {
+    let v = r.verdict;
+    match v {
+        Verdict::Accepted => {
+            let s = r.session;
+            show_session(s);
+        }
+        Verdict::Refused(refusal) => {
+            text(b"refused ");
+            io::print_decimal(1, refusal.number() as u64);
+        }
+    }
+}
+
+fn show_count(r: Answer) {
+    let v = r.verdict;
+    match v {
+        Verdict::Accepted => {
+            io::print_decimal(1, r.stores as u64);
+        }
+        Verdict::Refused(refusal) => {
+            text(b"refused ");
+            io::print_decimal(1, refusal.number() as u64);
+        }
+    }
+}
+
+// Start-up with a booted bank, repair, and repair again once its stores are done.
+fn show(a: &mut [u8], booted: u32) {
+    text(b"\t");
+    show_start(start_up::start_up(a, booted));
+    let mut out = [0u32; 4200];
+    let first = repair::repair(a, &mut out);
+    text(b" ");
+    show_count(first);
+    areas::apply(a, &out, first.stores);
+    let second = repair::repair(a, &mut out);
+    text(b" ");
+    show_count(second);
+}
+
+// The fault in the record at base, where `this` is not 0.
+fn spoil(a: &mut [u8], base: usize, fault: u32, this: u8) {
+    if this == 0 {
+        return;
+    }
+    faults::header(a, base, fault);
+    faults::fields_of(a, base, fault);
+    faults::banks(a, base, fault);
+}
+
+// An area with the fault in copy 0 (1), in copy 1 (2) or in both (3).
+fn area(banks: usize, images: usize, fault: u32, copies: u8) {
+    let mut a = [0u8; 16384];
+    build(&mut a, 0, banks, images);
+    build(&mut a, 8192, banks, images);
+    spoil(&mut a, 0, fault, copies % 2);
+    spoil(&mut a, 8192, fault, copies / 2);
+    seal(&mut a, 0);
+    seal(&mut a, 8192);
+    show(&mut a, 0);
+}
+
+fn case(name: &[u8], banks: usize, images: usize, fault: u32) {
+    text(name);
+    area(banks, images, fault, 1);
+    area(banks, images, fault, 2);
+    area(banks, images, fault, 3);
+    text(b"\n");
+}
+
+fn pick(this: u8, x: usize, y: usize) -> usize {
+    if this == 0 { y } else { x }
+}
+
+// Records of any counts in copy 0, in copy 1 and in both; the other copy has 2 banks and 1 image.
+fn counted(banks: usize, images: usize, copies: u8) {
+    let mut a = [0u8; 16384];
+    build(&mut a, 0, pick(copies % 2, banks, 2), pick(copies % 2, images, 1));
+    build(&mut a, 8192, pick(copies / 2, banks, 2), pick(copies / 2, images, 1));
+    seal(&mut a, 0);
+    seal(&mut a, 8192);
+    show(&mut a, 0);
+}
+
+fn counts(name: &[u8], banks: usize, images: usize) {
+    text(name);
+    counted(banks, images, 1);
+    counted(banks, images, 2);
+    counted(banks, images, 3);
+    text(b"\n");
+}
+
+// A byte changed, where `this` is not 0.
+fn harm(a: &mut [u8], at: usize, this: u8) {
+    if this == 0 {
+        return;
+    }
+    areas::put8(a, at, 77);
+}
+
+// Rule 14: a byte changed behind the checksum's back, in copy 0, in copy 1, in both.
+fn damaged(at: usize, copies: u8) {
+    if 8192 <= at {
+        return;
+    }
+    let mut a = [0u8; 16384];
+    build(&mut a, 0, 2, 1);
+    build(&mut a, 8192, 2, 1);
+    seal(&mut a, 0);
+    seal(&mut a, 8192);
+    harm(&mut a, at, copies % 2);
+    harm(&mut a, at + 8192, copies / 2);
+    show(&mut a, 0);
+}
+
+fn damage(name: &[u8], at: usize) {
+    text(name);
+    damaged(at, 1);
+    damaged(at, 2);
+    damaged(at, 3);
+    text(b"\n");
+}
+
+// The booted bank, on 2 banks, and a bank's state.
+fn booted(name: &[u8], bank: u32, state: u8, accepted: u32) {
+    let mut a = [0u8; 16384];
+    build(&mut a, 0, 2, 1);
+    build(&mut a, 8192, 2, 1);
+    areas::put8(&mut a, 24, state);
+    areas::put32(&mut a, 88, accepted);
+    seal(&mut a, 0);
+    text(name);
+    show(&mut a, bank);
+    text(b"\n");
+}
+
+// A record in copy 0 alone, or none.
+fn first_only(a: &mut [u8], sound: bool) {
+    if !sound {
+        return;
+    }
+    build(a, 0, 2, 1);
+    seal(a, 0);
+}
+
+// Lengths: of the area, and of the store slice, by parts of larger arrays.
+fn lengths(name: &[u8], n: usize, m: usize, sound: bool) {
+    if 16400 < n {
+        return;
+    }
+    if 4300 < m {
+        return;
+    }
+    let mut a = [0u8; 16400];
+    first_only(&mut a, sound);
+    let mut out = [7u32; 4300];
+    text(name);
+    text(b"\t");
+    show_start(start_up::start_up(&a[0..n], 0));
+    text(b" ");
+    show_count(repair::repair(&a[0..n], &mut out[0..m]));
+    text(b"\n");
+}
+
+fn rules_1_to_7() {
+    case(b"sound", 4, 2, 0);
+    case(b"1 version 0", 4, 2, 10);
+    case(b"1 version 1", 4, 2, 11);
+    case(b"1 version 3", 4, 2, 12);
+    counts(b"2 banks 1", 1, 2);
+    counts(b"2 banks 2", 2, 2);
+    counts(b"2 banks 4", 4, 2);
+    counts(b"2 banks 5", 5, 2);
+    counts(b"3 images 0", 2, 0);
+    counts(b"3 images 1", 2, 1);
+    counts(b"3 images 32", 4, 32);
+    counts(b"3 images 33", 4, 33);
+    case(b"4 bank entry size 23", 4, 2, 40);
+    case(b"4 bank entry size 25", 4, 2, 41);
+    case(b"5 image entry size 127", 4, 2, 50);
+    case(b"5 image entry size 129", 4, 2, 51);
+    case(b"6 size 295", 4, 2, 60);
+    case(b"6 size 297", 4, 2, 61);
+    case(b"6 size 0", 4, 2, 62);
+    case(b"6 size 39", 4, 2, 63);
+    case(b"6 size 8193", 4, 2, 64);
+    case(b"6 size 4294967295", 4, 2, 65);
+    case(b"7 descriptor offset 31", 4, 2, 70);
+    case(b"7 descriptor offset 33", 4, 2, 71);
+    case(b"7 descriptor offset 0", 4, 2, 72);
+}
+
+fn rules_8_to_14() {
+    case(b"8 reserved 22", 4, 2, 80);
+    case(b"8 reserved 23", 4, 2, 81);
+    case(b"8 reserved 28", 4, 2, 82);
+    case(b"8 reserved 31", 4, 2, 83);
+    case(b"8 reserved 33", 4, 2, 84);
+    case(b"8 reserved, first entry", 4, 2, 85);
+    case(b"8 reserved, last entry", 4, 2, 86);
+    case(b"9 active 4", 4, 2, 90);
+    case(b"9 previous 4", 4, 2, 91);
+    case(b"9 previous 4294967295", 4, 2, 92);
+    case(b"10 accepted 2", 4, 2, 100);
+    case(b"10 accepted 4294967295", 4, 2, 101);
+    case(b"11 type GUIDs equal", 4, 2, 110);
+    case(b"12 state 253", 4, 2, 120);
+    case(b"12 state 251", 4, 2, 121);
+    case(b"12 state 0", 4, 2, 122);
+    case(b"12 state 252 past the banks", 2, 2, 123);
+    case(b"12 state 254 past the banks", 2, 2, 124);
+    case(b"13 accepted bank with an image that is not", 4, 2, 130);
+    case(b"13 valid bank with every image accepted", 4, 2, 131);
+    case(b"13 active bank invalid", 4, 2, 132);
+    damage(b"14 first byte of the CRC", 0);
+    damage(b"14 last byte of the record", 119);
+    damage(b"a byte behind the record", 120);
+}
+
+fn main() {
+    rules_1_to_7();
+    rules_8_to_14();
+    booted(b"active, accepted", 0, 252, 1);
+    booted(b"active, valid", 0, 254, 0);
+    booted(b"not the active bank", 1, 252, 1);
+    booted(b"sample 14: two banks, booted bank 2", 2, 252, 1);
+    booted(b"booted bank 4294967295", 4294967295, 252, 1);
+    lengths(b"area of 16383", 16383, 4300, true);
+    lengths(b"area of 16384", 16384, 4300, true);
+    lengths(b"area of 16385", 16385, 4300, true);
+    lengths(b"store slice of 4199", 16384, 4199, true);
+    lengths(b"store slice of 4200", 16384, 4200, true);
+    lengths(b"area before slice", 16383, 4199, true);
+    lengths(b"slice before copies", 16384, 4199, false);
+    lengths(b"no sound copy", 16384, 4200, false);
+}

@@ -1,0 +1,2 @@
+-- Laws of repair's list, for the proofs here.
+pub mod Listing

@@ -1,0 +1,2 @@
+-- Repair. Assumes nothing.
+pub mod Repair

@@ -1,0 +1,2 @@
+-- The session and the answer. Assumes nothing.
+pub mod Outcome

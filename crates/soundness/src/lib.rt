@@ -1,0 +1,105 @@
+// Whether a copy is sound (document 01, "The record"): the fourteen rules, in their order.
+use crc::crc32;
+use entries::accepted_rule;
+use entries::banks_rule;
+use entries::reserved_rule;
+use entries::states_rule;
+use entries::type_guids_rule;
+use fields::read16;
+use fields::read32;
+use record::bank_count_rule;
+use record::bank_entry_size_rule;
+use record::banks_named_rule;
+use record::descriptor_offset_rule;
+use record::image_count_rule;
+use record::image_entry_size_rule;
+use record::record_in;
+use record::size_rule;
+use record::version_rule;
+ghost use mathlib.Core.Path.{_≡_};
+ghost use Prim.Native.Nat.{_≤_};
+ghost use lib.ListN.{length};
+ghost use Rattle.record.specs.Rules.{crcRule, sound, soundCopy};
+ghost use Rattle.record.specs.Sized.{Sized, firstSix, lastEight};
+
+// Rule 14.
+fn crc_rule(r: &[u8]) -> bool
+    requires { ⌜ 40 ≤ length (now r) ⌝ }
+    ensures { λ b. ⌜ b ≡ crcRule (now (r .entry)) ⌝ }
+{
+    read32(r, 0) == crc32(&r[4..])
+}
+
+// Rules 1 to 6, on which the record's length rests.
+fn first_six(r: &[u8]) -> bool
+    requires { ⌜ 40 ≤ length (now r) ⌝ }
+    ensures { λ b. ⌜ b ≡ firstSix (now (r .entry)) ⌝ }
+{
+    if !version_rule(r) {
+        return false;
+    }
+    if !bank_count_rule(r) {
+        return false;
+    }
+    if !image_count_rule(r) {
+        return false;
+    }
+    if !bank_entry_size_rule(r) {
+        return false;
+    }
+    if !image_entry_size_rule(r) {
+        return false;
+    }
+    size_rule(r)
+}
+
+// Rules 7 to 14.
+fn last_eight(r: &[u8], banks: usize, images: usize) -> bool
+    requires { ⌜ Sized (now r) banks images ⌝ }
+    ensures { λ b. ⌜ b ≡ lastEight (now (r .entry)) ⌝ }
+{
+    if !descriptor_offset_rule(r) {
+        return false;
+    }
+    if !reserved_rule(r, banks, images) {
+        return false;
+    }
+    if !banks_named_rule(r) {
+        return false;
+    }
+    if !accepted_rule(r, banks, images) {
+        return false;
+    }
+    if !type_guids_rule(r, banks, images) {
+        return false;
+    }
+    if !states_rule(r, banks, images) {
+        return false;
+    }
+    let active = read32(r, 8) as usize;
+    if !banks_rule(r, banks, images, active) {
+        return false;
+    }
+    crc_rule(r)
+}
+
+// Whether a record is sound.
+pub fn sound_record(r: &[u8]) -> bool
+    requires { ⌜ 40 ≤ length (now r) ⌝ }
+    ensures { λ b. ⌜ b ≡ sound (now (r .entry)) ⌝ }
+{
+    if !first_six(r) {
+        return false;
+    }
+    let banks = r[32] as usize;
+    let images = read16(r, 34) as usize;
+    last_eight(r, banks, images)
+}
+
+// Whether a copy is sound: its record is.
+pub fn sound_copy(c: &[u8]) -> bool
+    requires { ⌜ 40 ≤ length (now c) ⌝ }
+    ensures { λ b. ⌜ b ≡ soundCopy (now (c .entry)) ⌝ }
+{
+    sound_record(record_in(c))
+}

@@ -1,0 +1,3 @@
+-- Lists of stores. Assumes nothing.
+pub mod Stores
+pub mod Added
