@@ -102,8 +102,18 @@ fn pick(this: u8, x: usize, y: usize) -> usize {
 // Records of any counts in copy 0, in copy 1 and in both; the other copy has 2 banks and 1 image.
 fn counted(banks: usize, images: usize, copies: u8) {
     let mut a = [0u8; 16384];
-    build(&mut a, 0, pick(copies % 2, banks, 2), pick(copies % 2, images, 1));
-    build(&mut a, 8192, pick(copies / 2, banks, 2), pick(copies / 2, images, 1));
+    build(
+        &mut a,
+        0,
+        pick(copies % 2, banks, 2),
+        pick(copies % 2, images, 1),
+    );
+    build(
+        &mut a,
+        8192,
+        pick(copies / 2, banks, 2),
+        pick(copies / 2, images, 1),
+    );
     seal(&mut a, 0);
     seal(&mut a, 8192);
     show(&mut a, 0);
