@@ -199,35 +199,50 @@ fn lengths(name: &[u8], n: usize, m: usize, sound: bool) {
     text(b"\n");
 }
 
-fn rules_1_to_7() {
+fn rule_1() {
     case(b"sound", 4, 2, 0);
     case(b"1 version 0", 4, 2, 10);
     case(b"1 version 1", 4, 2, 11);
     case(b"1 version 3", 4, 2, 12);
+}
+
+fn rule_2() {
     counts(b"2 banks 1", 1, 2);
     counts(b"2 banks 2", 2, 2);
     counts(b"2 banks 4", 4, 2);
     counts(b"2 banks 5", 5, 2);
+}
+
+fn rules_3_to_4() {
     counts(b"3 images 0", 2, 0);
     counts(b"3 images 1", 2, 1);
     counts(b"3 images 32", 4, 32);
     counts(b"3 images 33", 4, 33);
     case(b"4 bank entry size 23", 4, 2, 40);
     case(b"4 bank entry size 25", 4, 2, 41);
+}
+
+fn rule_5() {
     case(b"5 image entry size 127", 4, 2, 50);
     case(b"5 image entry size 129", 4, 2, 51);
+}
+
+fn rule_6() {
     case(b"6 size 295", 4, 2, 60);
     case(b"6 size 297", 4, 2, 61);
     case(b"6 size 0", 4, 2, 62);
     case(b"6 size 39", 4, 2, 63);
     case(b"6 size 8193", 4, 2, 64);
     case(b"6 size 4294967295", 4, 2, 65);
+}
+
+fn rule_7() {
     case(b"7 descriptor offset 31", 4, 2, 70);
     case(b"7 descriptor offset 33", 4, 2, 71);
     case(b"7 descriptor offset 0", 4, 2, 72);
 }
 
-fn rules_8_to_14() {
+fn rule_8() {
     case(b"8 reserved 22", 4, 2, 80);
     case(b"8 reserved 23", 4, 2, 81);
     case(b"8 reserved 28", 4, 2, 82);
@@ -235,17 +250,26 @@ fn rules_8_to_14() {
     case(b"8 reserved 33", 4, 2, 84);
     case(b"8 reserved, first entry", 4, 2, 85);
     case(b"8 reserved, last entry", 4, 2, 86);
+}
+
+fn rules_9_to_11() {
     case(b"9 active 4", 4, 2, 90);
     case(b"9 previous 4", 4, 2, 91);
     case(b"9 previous 4294967295", 4, 2, 92);
     case(b"10 accepted 2", 4, 2, 100);
     case(b"10 accepted 4294967295", 4, 2, 101);
     case(b"11 type GUIDs equal", 4, 2, 110);
+}
+
+fn rule_12() {
     case(b"12 state 253", 4, 2, 120);
     case(b"12 state 251", 4, 2, 121);
     case(b"12 state 0", 4, 2, 122);
     case(b"12 state 252 past the banks", 2, 2, 123);
     case(b"12 state 254 past the banks", 2, 2, 124);
+}
+
+fn rules_13_to_14() {
     case(b"13 accepted bank with an image that is not", 4, 2, 130);
     case(b"13 valid bank with every image accepted", 4, 2, 131);
     case(b"13 active bank invalid", 4, 2, 132);
@@ -254,14 +278,15 @@ fn rules_8_to_14() {
     damage(b"a byte behind the record", 120);
 }
 
-fn main() {
-    rules_1_to_7();
-    rules_8_to_14();
+fn booted_banks() {
     booted(b"active, accepted", 0, 252, 1);
     booted(b"active, valid", 0, 254, 0);
     booted(b"not the active bank", 1, 252, 1);
     booted(b"sample 14: two banks, booted bank 2", 2, 252, 1);
     booted(b"booted bank 4294967295", 4294967295, 252, 1);
+}
+
+fn slice_lengths() {
     lengths(b"area of 16383", 16383, 4300, true);
     lengths(b"area of 16384", 16384, 4300, true);
     lengths(b"area of 16385", 16385, 4300, true);
@@ -270,4 +295,19 @@ fn main() {
     lengths(b"area before slice", 16383, 4199, true);
     lengths(b"slice before copies", 16384, 4199, false);
     lengths(b"no sound copy", 16384, 4200, false);
+}
+
+fn main() {
+    rule_1();
+    rule_2();
+    rules_3_to_4();
+    rule_5();
+    rule_6();
+    rule_7();
+    rule_8();
+    rules_9_to_11();
+    rule_12();
+    rules_13_to_14();
+    booted_banks();
+    slice_lengths();
 }
