@@ -12,7 +12,7 @@ use lib.Seq.{take-nil}
 use Rattle.power_cuts.specs.Area.{afterStores, afterCut}
 use Rattle.power_cuts.specs.Format.{Format, FormatLaws, Writer, WriterLaws}
 use Rattle.power_cuts.specs.Theorem.{repairStores, Event, startUpWith, repairWith, afterEvent, afterList, Finishes, Finished, Lasts}
-use Rattle.power_cuts.proofs.Parts.{State, Settled, state-read, settled-both}
+use Rattle.power_cuts.proofs.Parts.{State, Settled, state-read, state-area, settled-both}
 use Rattle.power_cuts.proofs.Repair.{repair-state, repair-settled, settled-none}
 
 module _ (F : Format) (laws : FormatLaws F) (W : Writer) (w : WriterLaws F W) (r : List ℕ) where
@@ -61,5 +61,6 @@ module _ (F : Format) (laws : FormatLaws F) (W : Writer) (w : WriterLaws F W) (r
   lasts a es s =
       record {
         reads = state-read F r (afterList F W a es) (list-state a es s) ∙ sym (state-read F r a s);
+        kept = state-area F r (afterList F W a es) (list-state a es s) .long ∙ sym (state-area F r a s .long);
         repaired = λ f. (r, state-read F r a s, settled-both F r (afterList F W a es) (list-finished a es s f));
       }

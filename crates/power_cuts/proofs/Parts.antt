@@ -92,6 +92,9 @@ unfolding recordRead
 state-of F r a h e =
     record { x = copy0 F a; y = copy1 F a; parts = parts-of F a h; reading = read-reading F r (copy0 F a) (copy1 F a) e }
 
+pub state-area : (F : Format) (r a : List ℕ) → State F r a → Area F a
+state-area F r a s = parts-area F a (s .x) (s .y) (s .parts)
+
 -- an area both of whose copies hold r
 pub record Settled (F : Format) (r a : List ℕ) : Type 0 where
   pub x : List ℕ

@@ -11,7 +11,7 @@ use lib.ListN.{length, take}
 use Rattle.power_cuts.specs.Area.{Bytes, afterStores, afterCut}
 use Rattle.power_cuts.specs.Format.{Format, FormatLaws, Writer, WriterLaws, Area, copy0, copy1}
 use Rattle.power_cuts.specs.Theorem.{recordRead, BothHold, changeCut, Event, Lasts, Survives, PowerCuts}
-use Rattle.power_cuts.proofs.Parts.{Parts, parts-of, State, Settled, state-read, state-of, settled-state, settled-both}
+use Rattle.power_cuts.proofs.Parts.{Parts, parts-of, State, Settled, state-read, state-area, state-of, settled-state, settled-both}
 use Rattle.power_cuts.proofs.Copy.{Holds}
 use Rattle.power_cuts.proofs.Change.{into0, early, late, settled, all-bytes}
 use Rattle.power_cuts.proofs.Lists.{lasts}
@@ -50,6 +50,10 @@ module _ (F : Format) (laws : FormatLaws F) (W : Writer) (w : WriterLaws F W) (a
   either-at n (yes h) = inr (state-read F new (at n) (new-at n h))
   either-at n (no h) = inl (state-read F old (at n) (old-at n (omega arith)))
 
+  kept-at : (n : ℕ) → Dec (turn ≤ n) → length (at n) ≡ length a
+  kept-at n (yes h) = state-area F new (at n) (new-at n h) .long ∙ sym (area .long)
+  kept-at n (no h) = state-area F old (at n) (old-at n (omega arith)) .long ∙ sym (area .long)
+
   later-at : (n m : ℕ) → n ≤ m → recordRead F (at n) ≡ some new → Dec (turn ≤ m) → recordRead F (at m) ≡ some new
   later-at n m h e (yes j) = state-read F new (at m) (new-at m j)
   later-at n m h e (no j) =
@@ -68,6 +72,7 @@ module _ (F : Format) (laws : FormatLaws F) (W : Writer) (w : WriterLaws F W) (a
             let s : Settled F new (at n) = settled F laws W w a old new area both bytes-new sound-new n h in
             (state-read F new (at n) (settled-state F new (at n) s), settled-both F new (at n) s);
         area = λ h. all-bytes F laws W w a old new area both bytes-new sound-new n h;
+        kept = kept-at n (decLe turn n);
         later = λ m h e. later-at n m h e (decLe turn m);
         lasts = lasts-at n es (decLe turn n);
       }

@@ -76,9 +76,10 @@ Finished F W a [] = ⊥
 Finished F W a (e ∷ es) = Finishes F W a e ⊎ Finished F W (afterEvent F W a e) es
 
 -- After a list of start-ups and repairs "start-up .. reads the same record as before it. Once a repair in the list has finished, both copies
--- are sound and equal from then on." The list is any list, so this holds after each event of a longer one too
+-- are sound and equal from then on." The list is any list, so this holds after each event of a longer one too. The area's length stays
 pub record Lasts (F : Format) (W : Writer) (a : List ℕ) (es : List Event) : Type 0 where
   pub reads : recordRead F (afterList F W a es) ≡ recordRead F a
+  pub kept : length (afterList F W a es) ≡ length a
   pub repaired : Finished F W a es → (r : List ℕ) × (recordRead F a ≡ some r) × BothHold F r (afterList F W a es)
 
 -- A change cut after n of its stores, and any list from there on:
@@ -86,6 +87,7 @@ pub record Lasts (F : Format) (W : Writer) (a : List ℕ) (es : List Event) : Ty
 --     first    "the old after no store"
 --     last     "the new after all": both copies hold it
 --     area     and every other byte of the area is as before
+--     kept     the area is as long as it was
 --     later    "once the new is read, every later cut of that change reads it too"
 --     lasts    "For every list of start-ups and repairs from there"
 pub record Survives (F : Format) (W : Writer) (a old new : List ℕ) (n : ℕ) (es : List Event) : Type 0 where
@@ -94,6 +96,7 @@ pub record Survives (F : Format) (W : Writer) (a old new : List ℕ) (n : ℕ) (
   pub last : length (changeStores F W a new) ≤ n
       → (recordRead F (changeCut F W a new n) ≡ some new) × BothHold F new (changeCut F W a new n)
   pub area : length (changeStores F W a new) ≤ n → changeCut F W a new n ≡ over new (copy0 F a) ++ over new (copy1 F a)
+  pub kept : length (changeCut F W a new n) ≡ length a
   pub later : (m : ℕ) → n ≤ m → recordRead F (changeCut F W a new n) ≡ some new → recordRead F (changeCut F W a new m) ≡ some new
   pub lasts : Lasts F W (changeCut F W a new n) es
 
