@@ -9,3 +9,4 @@ pub mod Repair
 pub mod Lists
 pub mod Theorem
 pub mod Version2
+pub mod Offsets

@@ -26,19 +26,19 @@ offsets-low o zero p m = elim m [ ]
 offsets-low o (suc n) p (List·Memᴰ·head e) = omega arith
 offsets-low o (suc n) p (List·Memᴰ·tail m) = omega (arith, offsets-low (o + 4) n p m)
 
-offsets-high : (o n p : ℕ) → List·Memᴰ p (offsets o n) → p + 4 ≤ o + 4 * n
+pub offsets-high : (o n p : ℕ) → List·Memᴰ p (offsets o n) → p + 4 ≤ o + 4 * n
 unfolding offsets
 offsets-high o zero p m = elim m [ ]
 offsets-high o (suc n) p (List·Memᴰ·head e) = omega arith
 offsets-high o (suc n) p (List·Memᴰ·tail m) = omega (arith, offsets-high (o + 4) n p m)
 
-offsets-aligned : (o n p : ℕ) → o % 4 ≡ 0 → List·Memᴰ p (offsets o n) → p % 4 ≡ 0
+pub offsets-aligned : (o n p : ℕ) → o % 4 ≡ 0 → List·Memᴰ p (offsets o n) → p % 4 ≡ 0
 unfolding offsets
 offsets-aligned o zero p h m = elim m [ ]
 offsets-aligned o (suc n) p h (List·Memᴰ·head e) = rw e h
 offsets-aligned o (suc n) p h (List·Memᴰ·tail m) = offsets-aligned (o + 4) n p (omega arith) m
 
-length-offsets : (o n : ℕ) → length (offsets o n) ≡ n
+pub length-offsets : (o n : ℕ) → length (offsets o n) ≡ n
 unfolding offsets
 length-offsets o zero = refl
 length-offsets o (suc n) = ap suc (length-offsets (o + 4) n)
@@ -89,7 +89,7 @@ module _ (c r : List ℕ) where
   abbrev keep : Bool → ℕ → List ℕ → List ℕ
   keep t o os = cond t os (o ∷ os)
 
-  differing-mem : (os : List ℕ) (p : ℕ) → List·Memᴰ p (differing c r os) → List·Memᴰ p os
+  pub differing-mem : (os : List ℕ) (p : ℕ) → List·Memᴰ p (differing c r os) → List·Memᴰ p os
   unfolding differing
   differing-mem [] p m = m
   differing-mem (o ∷ os) p m = go (eqb (le 4 c o) (le 4 r o)) (λ k. differing-mem os p k) m
@@ -134,7 +134,7 @@ module _ (c r : List ℕ) where
       covers i (inl e) = inl e
       covers i (inr m) = found i (m .0) (m .2) (m .3) (differing-or os (m .0) (m .1))
 
-  length-differing : (os : List ℕ) → length (differing c r os) ≤ length os
+  pub length-differing : (os : List ℕ) → length (differing c r os) ≤ length os
   unfolding differing
   length-differing [] = omega arith
   length-differing (o ∷ os) = go (eqb (le 4 c o) (le 4 r o)) (length-differing os)

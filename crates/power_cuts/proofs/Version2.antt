@@ -52,7 +52,7 @@ module _ (r : List ℕ) (h : sound r ≡ true) where
   sized = sound-sized r h
 
   -- the record's length, in words
-  in-words : length r ≡ 4 * (10 + imageCount r * (8 + 6 * bankCount r))
+  pub in-words : length r ≡ 4 * (10 + imageCount r * (8 + 6 * bankCount r))
   in-words = omega (arith, sized .long, fours (imageCount r) (bankCount r))
 
   told : (t : List ℕ) → recordLength (r ++ t) ≡ length r
@@ -65,8 +65,8 @@ module _ (r : List ℕ) (h : sound r ≡ true) where
   unfolding le
   marked = omega (arith, sound-version r h)
 
-  in-copy : length r ≤ 8192
-  in-copy =
+  pub record-high : length r ≤ 4136
+  record-high =
       let k : 32 + 24 * bankCount r ≤ 128 = omega (arith, sized .banks-high) in
       omega (arith, sized .long, at-most (imageCount r) (32 + 24 * bankCount r) 32 128 (sized .images-high) k)
 
@@ -76,7 +76,7 @@ version2-laws =
     record {
       size-told = λ r t h. told r h t;
       version-marks = λ r h. marked r h;
-      fits = λ r h. in-copy r h;
+      fits = λ r h. omega (arith, record-high r h);
       two-words = λ r h. omega (arith, in-words r h);
       whole-words = λ r h. omega (arith, in-words r h);
     }

@@ -3,3 +3,4 @@ pub mod Area
 pub mod Format
 pub mod Theorem
 pub mod Version2
+pub mod Offsets
