@@ -54,11 +54,12 @@ other-words r o k w (List·Memᴰ·tail m) =
 placed : (base : ℕ) (c r : List ℕ) → base % 4 ≡ 0 → 8 ≤ length r → 4 * (length r / 4) ≡ length r
     → Each (Placed base (length r)) (plan base c r)
 unfolding plan writes
-placed base c r even k w =
-    (one-placed base r even versionAt 0 refl (omega arith),
-    each-shifted (Placed base (length r)) base (map (store r) (differing c r (otherWords r))) (store r versionAt ∷ [])
-    (words-placed base r even (differing c r (otherWords r)) (λ o m. other-words r o k w (differing-mem c r (otherWords r) o m)))
-    (one-placed base r even versionAt (store r versionAt .1) refl (omega arith), tt))
+placed base c r even k w = (
+  one-placed base r even versionAt 0 refl (omega arith),
+  each-shifted (Placed base (length r)) base (map (store r) (differing c r (otherWords r))) (store r versionAt ∷ [])
+      (words-placed base r even (differing c r (otherWords r)) (λ o m. other-words r o k w (differing-mem c r (otherWords r) o m)))
+      (one-placed base r even versionAt (store r versionAt .1) refl (omega arith), tt),
+)
 
 count : (base : ℕ) (c r : List ℕ) → 8 ≤ length r → length (plan base c r) ≤ length r / 4 + 1
 unfolding plan writes otherWords
@@ -101,9 +102,11 @@ change-count : (a new : List ℕ) → sound new ≡ true → 2 * length (changeS
 unfolding changeStores copyStores
 change-count a new h =
     rw length-append
-    (omega (arith,
+    (omega (
+      arith,
       spared-few (same (recordOf (copy0 a)) new) (plan 0 (copy0 a) new) (few (copy0 a) new h 0),
-      spared-few (same (recordOf (copy1 a)) new) (plan copySize (copy1 a) new) (few (copy1 a) new h copySize)))
+      spared-few (same (recordOf (copy1 a)) new) (plan copySize (copy1 a) new) (few (copy1 a) new h copySize),
+    ))
 
 -- ---- a repair
 other-placed : (a : List ℕ) (s : Source) → sourceOf a ≡ s → Each (InEither (length (readFrom s a))) (otherStores s a)
