@@ -10,3 +10,4 @@ pub mod Lists
 pub mod Theorem
 pub mod Version2
 pub mod Offsets
+pub mod Sample

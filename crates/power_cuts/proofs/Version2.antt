@@ -149,7 +149,7 @@ both-of a e =
     let q = both (soundCopy (copy0 a)) (soundCopy (copy1 a)) (p .0) in
     record { sound0 = q .0; is0 = refl; sound1 = q .1; is1 = sym (same-true (recordOf (copy0 a)) (recordOf (copy1 a)) (p .1)) }
 
-of-both : (a r : List ℕ) → general.BothHold version2 r a → soundAndEqual a ≡ true
+pub of-both : (a r : List ℕ) → general.BothHold version2 r a → soundAndEqual a ≡ true
 unfolding soundAndEqual recordsEqual format.soundCopy format.recordOf version2 soundCopy recordOf
 of-both a r h =
     let s0 : soundCopy (copy0 a) ≡ true = h .sound0 in
@@ -160,7 +160,7 @@ of-both a r h =
     ∙ ap (λ (l : List ℕ). same l (recordOf (copy1 a))) e
     ∙ same-refl (recordOf (copy1 a))
 
-area-of : (a : List ℕ) → length a ≡ areaSize → Bytes a → format.Area version2 a
+pub area-of : (a : List ℕ) → length a ≡ areaSize → Bytes a → format.Area version2 a
 unfolding version2
 area-of a l b = record { long = l; bytes = b }
 
