@@ -1,10 +1,10 @@
 -- A change, cut after n of its stores: the old record is read while copy 0 is not written, the new one from then on. Assumes nothing.
 use mathlib.Core.Path.{_≡_, refl, sym, ap, _∙_}
 use mathlib.Core.Bool.{Bool, true, false, cond}
-use mathlib.Core.List.{List, [], _∷_, _++_, map}
+use mathlib.Core.List.{List, [], _++_, map}
 use Prim.Native.Nat.{ℕ, _+_, _-_, _≤_, _<_}
 use native.Mathlib.Omega.{arith}
-use lib.ListN.{length, take, drop, length-map, length-append}
+use lib.ListN.{length, take, length-map, length-append}
 use lib.Seq.{take-all}
 use Rattle.fields.specs.Guid.{same}
 use Rattle.stores.specs.Stores.{Store, shift}
@@ -86,7 +86,6 @@ module _ (F : Format) (laws : FormatLaws F) (W : Writer) (w : WriterLaws F W) (a
 
   cut-parts : (n : ℕ) → Parts F (changeCut F W a new n) (cut0 F W a new n) (cut1 F W a new n)
   cut-parts n =
-      let m : ℕ = n - length (into0 F W a new) in
       record {
         whole = cut-whole n;
         long0 =

@@ -6,7 +6,7 @@ use Prim.Native.Nat.{ℕ, zero, suc, _+_, _≤_, _<_}
 use native.Mathlib.Omega.{arith}
 use native.Mathlib.Decide.{decLe}
 use lib.ListN.{length, take, drop, getD, take-append-drop}
-use lib.Seq.{take-all, take-nil, take-append-seam, drop-append-seam}
+use lib.Seq.{take-all, take-append-seam, drop-append-seam}
 use Rattle.fields.specs.Guid.{same}
 use Rattle.fields.proofs.Guid.{same-true}
 use Rattle.stores.specs.Stores.{versionAt}

@@ -1,6 +1,6 @@
 -- Where the stores lie and how many there are. Assumes nothing.
 use mathlib.Core.Path.{_≡_, refl, sym, ap, _∙_}
-use mathlib.Core.Logic.{_⊎_, inl, inr}
+use mathlib.Core.Logic.{inl, inr}
 use mathlib.Core.Bool.{Bool, true, false, cond}
 use mathlib.Core.List.{List, [], _∷_, _++_, map, List·Memᴰ, List·Memᴰ·head, List·Memᴰ·tail}
 use Prim.Native.Nat.{ℕ, _+_, _*_, _-_, _/_, _%_, _≤_}
@@ -13,7 +13,7 @@ use Rattle.copies.specs.Copies.{sourceOf, readFrom, soundAndEqual}
 use Rattle.copies.specs.declared.Source.{Source}
 use Rattle.copies.specs.declared.Source.the-variants.{Copy0, Copy1, Neither}
 use Rattle.copies.proofs.Reading.{from-copy0, from-copy1}
-use Rattle.stores.specs.Stores.{Store, store, shift, storeNumbers, versionAt, offsets, otherWords, differing, writes, plan}
+use Rattle.stores.specs.Stores.{Store, store, shift, storeNumbers, versionAt, otherWords, differing, writes, plan}
 use Rattle.power_cuts.specs.Version2.{copyStores, changeStores, otherStores, repairStores}
 use Rattle.power_cuts.specs.Offsets.{Placed, Each, InEither, StoreRules}
 use Rattle.power_cuts.proofs.Plan.{offsets-high, offsets-aligned, length-offsets, differing-mem, length-differing}

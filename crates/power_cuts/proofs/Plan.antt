@@ -2,17 +2,17 @@
 use mathlib.Core.Path.{_≡_, refl, sym, ap, _∙_}
 use mathlib.Core.Logic.{_⊎_, inl, inr}
 use mathlib.Core.Bool.{Bool, true, false, cond}
-use mathlib.Core.List.{List, [], _∷_, _++_, map, List·Memᴰ, List·Memᴰ·head, List·Memᴰ·tail}
+use mathlib.Core.List.{List, [], _∷_, map, List·Memᴰ, List·Memᴰ·head, List·Memᴰ·tail}
 use Prim.Native.Nat.{ℕ, zero, suc, _+_, _*_, _-_, _/_, _%_, _≤_, _<_}
 use native.Mathlib.Omega.{arith}
 use native.Mathlib.Decide.{decLt, decLe}
 use borrow.Author.Tests.{eqb-true}
 use lib.Dec.{eqb}
-use lib.ListN.{length, take, drop, getD, length-map, length-append, length-drop, List·getD-append}
+use lib.ListN.{length, take, drop, getD, length-append, length-drop, List·getD-append}
 use lib.Seq.{take-append-le, getD-append-add, getD-drop, ext-getD}
 use Rattle.fields.specs.Number.{le}
 use Rattle.fields.proofs.Number.{le-bytes}
-use Rattle.stores.specs.Stores.{Store, store, shift, offsets, otherWords, differing, writes, versionAt}
+use Rattle.stores.specs.Stores.{store, offsets, otherWords, differing, writes, versionAt}
 use Rattle.power_cuts.specs.Area.{Bytes, afterStore, afterStores, afterCut}
 use Rattle.power_cuts.specs.Format.{Format, FormatLaws, Writable, WriterLaws, Inside, over}
 use Rattle.power_cuts.specs.Version2.{planned}

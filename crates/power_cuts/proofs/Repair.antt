@@ -1,16 +1,16 @@
 -- A repair, cut after n of its stores: the record read stays, and both copies hold it once all are done. Assumes nothing.
 use mathlib.Core.Path.{_≡_, refl, sym, ap, _∙_}
 use mathlib.Core.Bool.{Bool, true, false, cond, _&&_}
-use mathlib.Core.List.{List, [], _∷_, _++_, map}
-use Prim.Native.Nat.{ℕ, _+_, _≤_, _<_}
+use mathlib.Core.List.{List, [], _++_, map}
+use Prim.Native.Nat.{ℕ, _+_, _≤_}
 use native.Mathlib.Omega.{arith}
-use lib.ListN.{length, take, drop, length-map}
+use lib.ListN.{length, take, length-map}
 use lib.Seq.{take-nil}
 use Rattle.fields.specs.Guid.{same}
 use Rattle.fields.proofs.Guid.{same-true, same-refl}
 use Rattle.stores.specs.Stores.{Store, shift}
 use Rattle.power_cuts.specs.Area.{Bytes, afterStores, afterCut}
-use Rattle.power_cuts.specs.Format.{Format, FormatLaws, Writer, WriterLaws, Writable, Inside, recordOf, soundCopy, copy0, copy1}
+use Rattle.power_cuts.specs.Format.{Format, FormatLaws, Writer, WriterLaws, Writable, Inside, recordOf, soundCopy}
 use Rattle.power_cuts.specs.Theorem.{equalCopies, intoOther, repairStores}
 use Rattle.power_cuts.proofs.Runs.{take-map, inside-take, inside-more, shift-none, stores-length, stores-bytes, stores-left, stores-right}
 use Rattle.power_cuts.proofs.Copy.{Holds, holds-sound, record-bytes, Stage, untouched, broken, written, stage, stage-all}
@@ -161,4 +161,6 @@ module _ (F : Format) (laws : FormatLaws F) (W : Writer) (w : WriterLaws F W) (r
   pub settled-none : Settled F r a → repairStores F W a ≡ []
   unfolding repairStores equalCopies
   settled-none s =
-      rw (parts-copy0 F a (s .x) (s .y) (s .parts), parts-copy1 F a (s .x) (s .y) (s .parts), s .holds0 .good, s .holds1 .good, s .holds0 .is, s .holds1 .is, same-refl r)
+      let e0 = parts-copy0 F a (s .x) (s .y) (s .parts) in
+      let e1 = parts-copy1 F a (s .x) (s .y) (s .parts) in
+      rw (e0, e1, s .holds0 .good, s .holds1 .good, s .holds0 .is, s .holds1 .is, same-refl r)

@@ -1,11 +1,11 @@
 -- Lists of stores: done in order, cut after n, in the first or the second part of a list of bytes. Assumes nothing.
 use mathlib.Core.Path.{_≡_, refl, sym, ap, _∙_}
-use mathlib.Core.Logic.{_⊎_, inl, inr}
+use mathlib.Core.Logic.{_⊎_}
 use mathlib.Core.List.{List, [], _∷_, _++_, map, List·Memᴰ, List·Memᴰ·head, List·Memᴰ·tail}
-use Prim.Native.Nat.{ℕ, zero, suc, _+_, _*_, _-_, _≤_, _<_}
+use Prim.Native.Nat.{ℕ, zero, suc, _+_, _-_, _≤_, _<_}
 use native.Mathlib.Nat.{zero-add, zero-sub, sub-zero, suc-sub-suc}
 use native.Mathlib.Omega.{arith}
-use lib.ListN.{length, take, drop, getD}
+use lib.ListN.{length, take, getD}
 use lib.Seq.{take-nil}
 use Rattle.stores.specs.Stores.{Store, store, shift}
 use Rattle.power_cuts.specs.Area.{Bytes, afterStore, afterStores}
@@ -90,7 +90,6 @@ pub stores-both : (xs ys : List ℕ) (ss ts : List Store) (n : ℕ) → Inside (
 stores-both xs ys ss ts n i =
     let j : Inside (length xs) (take n ss) = inside-take (length xs) n ss i in
     let e : length (afterStores xs (take n ss)) ≡ length xs = stores-length xs (take n ss) j in
-    let us : List Store = take (n - length ss) ts in
     rw (take-append n ss, take-map, stores-append, stores-left xs ys (take n ss) j)
     (ap (λ (k : ℕ). afterStores (afterStores xs (take n ss) ++ ys) (map (shift k) (take (n - length ss) ts))) (sym e)
     ∙ stores-right (afterStores xs (take n ss)) ys (take (n - length ss) ts))

@@ -1,14 +1,13 @@
 -- The theorem's conditions can be met: an area that holds the bench sheet's record of document 01 twice (two banks, one image, all accepted,
 -- active 0, previous 1), its CRC worked by the plain division. Assumes nothing.
 use mathlib.Core.Path.{_≡_, refl, sym, ap, _∙_}
-use mathlib.Core.Bool.{Bool, true, false, cond, not, _&&_, _||_}
+use mathlib.Core.Bool.{Bool, true, _&&_}
 use mathlib.Core.List.{List, [], _∷_, _++_}
-use Prim.Native.Nat.{ℕ, zero, suc, _+_, _<_}
+use Prim.Native.Nat.{ℕ, zero, suc, _+_}
 use native.Mathlib.Omega.{arith}
 use borrow.Author.Tests.{ltb-true}
-use lib.Dec.{eqb, leb, ltb}
-use lib.ListN.{length, take, drop, getD, replicate, length-replicate, length-append}
-use lib.Seq.{take-at, drop-at, take-all}
+use lib.Dec.{ltb}
+use lib.ListN.{length, replicate, length-replicate, length-append}
 use Rattle.fields.specs.Number.{le}
 use Rattle.fields.specs.Guid.{guid, same}
 use Rattle.fields.proofs.Tests.{both}
@@ -18,8 +17,6 @@ use Rattle.record.specs.Layout.{areaSize}
 use Rattle.record.specs.Rules as rule
 use Rattle.copies.specs.Copies.{soundAndEqual}
 use Rattle.power_cuts.specs.Area.{Bytes}
-use Rattle.power_cuts.specs.Format.{Area}
-use Rattle.power_cuts.specs.Theorem.{BothHold}
 use Rattle.power_cuts.specs.Version2.{version2}
 use Rattle.power_cuts.proofs.Words.{append-bytes}
 use Rattle.power_cuts.proofs.Copy.{Holds, starts-holds}

@@ -1,18 +1,17 @@
 -- Demand 3 holds for every format and every writer that keep the laws of specs/Format.antt. Assumes nothing.
 use mathlib.Core.Path.{_≡_, refl, sym, ap, _∙_}
 use mathlib.Core.Logic.{_⊎_, inl, inr}
-use mathlib.Core.Bool.{Bool, true}
-use mathlib.Core.Option.{Option, none, some}
+use mathlib.Core.Bool.{true}
+use mathlib.Core.Option.{some}
 use mathlib.Core.List.{List}
 use Prim.Native.Nat.{ℕ, _≤_, _<_}
 use native.Mathlib.Omega.{arith}
 use native.Mathlib.Decide.{decLe}
-use lib.ListN.{length, take}
+use lib.ListN.{length}
 use Rattle.power_cuts.specs.Area.{Bytes, afterStores, afterCut}
 use Rattle.power_cuts.specs.Format.{Format, FormatLaws, Writer, WriterLaws, Area, copy0, copy1}
 use Rattle.power_cuts.specs.Theorem.{recordRead, BothHold, changeCut, Event, Lasts, Survives, PowerCuts}
-use Rattle.power_cuts.proofs.Parts.{Parts, parts-of, State, Settled, state-read, state-area, state-of, settled-state, settled-both}
-use Rattle.power_cuts.proofs.Copy.{Holds}
+use Rattle.power_cuts.proofs.Parts.{parts-of, State, Settled, state-read, state-area, state-of, settled-state, settled-both}
 use Rattle.power_cuts.proofs.Change.{into0, early, late, settled, all-bytes}
 use Rattle.power_cuts.proofs.Lists.{lasts}
 
