@@ -51,7 +51,7 @@ module _ (F : Format) (laws : FormatLaws F) where
       record { good = ap (F .sound) e ∙ h; is = e }
 
 -- a copy whose record is r has it in front of its tail already
-held-over : (F : Format) (c r : List ℕ) → recordOf F c ≡ r → c ≡ over r c
+pub held-over : (F : Format) (c r : List ℕ) → recordOf F c ≡ r → c ≡ over r c
 unfolding recordOf
 held-over F c r e =
     let p : c ≡ r ++ drop (F .sizeOf c) c = sym (ap (λ (l : List ℕ). l ++ drop (F .sizeOf c) c) (sym e) ∙ take-append-drop (F .sizeOf c) c) in
@@ -109,3 +109,7 @@ module _ (F : Format) (laws : FormatLaws F) (W : Writer) (w : WriterLaws F W) (c
       go (untouched k q) = absurd (omega arith)
       go (broken k u) = absurd (omega arith)
       go (written k q) = q
+
+  -- in front of the old tail
+  pub stage-over : (n : ℕ) → length (W c r) ≤ n → afterStores c (take n (W c r)) ≡ over r c
+  stage-over n h = ap (afterStores c) (take-all n (W c r) h) ∙ w .ends c r f

@@ -10,10 +10,10 @@ use Rattle.fields.specs.Guid.{same}
 use Rattle.fields.proofs.Guid.{same-true, same-refl}
 use Rattle.stores.specs.Stores.{Store, shift}
 use Rattle.power_cuts.specs.Area.{Bytes, afterStores, afterCut}
-use Rattle.power_cuts.specs.Format.{Format, FormatLaws, Writer, WriterLaws, Writable, Inside, recordOf, soundCopy}
+use Rattle.power_cuts.specs.Format.{Format, FormatLaws, Writer, WriterLaws, Writable, Inside, recordOf, soundCopy, copy0, copy1, over}
 use Rattle.power_cuts.specs.Theorem.{equalCopies, intoOther, repairStores}
 use Rattle.power_cuts.proofs.Runs.{take-map, inside-take, inside-more, shift-none, stores-length, stores-bytes, stores-left, stores-right}
-use Rattle.power_cuts.proofs.Copy.{Holds, holds-sound, record-bytes, Stage, untouched, broken, written, stage, stage-all}
+use Rattle.power_cuts.proofs.Copy.{Holds, holds-sound, record-bytes, Stage, untouched, broken, written, stage, stage-all, stage-over, held-over}
 use Rattle.power_cuts.proofs.Parts.{Parts, parts-recast, parts-copy0, parts-copy1, Reading, first, second, State, Settled}
 
 -- what the stores ss, cut after n of them, leave of the copies x and y
@@ -23,6 +23,7 @@ pub record Mended (F : Format) (r x y : List ℕ) (n : ℕ) (ss : List Store) : 
   pub parts : Parts F (afterStores (x ++ y) (take n ss)) x′ y′
   pub reading : Reading F r x′ y′
   pub finished : length ss ≤ n → Holds F r x′ × Holds F r y′
+  pub ends : length ss ≤ n → (x′ ≡ over r x) × (y′ ≡ over r y)
 
 never-both : {A : Type 0} {b : Bool} → b ≡ true → b ≡ false → A
 never-both p q = absurd (let z : true ≡ false = sym p ∙ q in let z : _≡_ {A = ℕ} 0 1 = cc in omega arith)
@@ -42,6 +43,7 @@ module _ (F : Format) (laws : FormatLaws F) (W : Writer) (w : WriterLaws F W) (r
         parts = record { whole = rw (take-nil n); long0 = fx .long; long1 = fy .long; bytes0 = fx .bytes; bytes1 = fy .bytes };
         reading = first hx;
         finished = λ k. (hx, hy);
+        ends = λ k. (held-over F x r (hx .is), held-over F y r (hy .is));
       }
 
   -- into copy 1, where copy 0 holds r and no store touches it
@@ -62,6 +64,7 @@ module _ (F : Format) (laws : FormatLaws F) (W : Writer) (w : WriterLaws F W) (r
         };
         reading = first hx;
         finished = λ k. (hx, stage-all F laws W w y r fy n (rw length-map at k));
+        ends = λ k. (held-over F x r (hx .is), stage-over F laws W w y r fy n (rw length-map at k));
       }
 
   -- into copy 0, where it is unsound and copy 1 holds r: unsound until the last store, and then it holds r too
@@ -80,6 +83,7 @@ module _ (F : Format) (laws : FormatLaws F) (W : Writer) (w : WriterLaws F W) (r
         };
         reading = now (stage F laws W w x r fx n);
         finished = λ k. (stage-all F laws W w x r fx n k, hy);
+        ends = λ k. (stage-over F laws W w x r fx n k, held-over F y r (hy .is));
       }
     where
       now : Stage F x r (length (W x r)) n (afterStores x (take n (W x r))) → Reading F r (afterStores x (take n (W x r))) y
@@ -156,6 +160,16 @@ module _ (F : Format) (laws : FormatLaws F) (W : Writer) (w : WriterLaws F W) (r
         holds0 = mended-at n s .finished h .0;
         holds1 = mended-at n s .finished h .1;
       }
+
+  -- and no other byte has changed
+  pub repair-over : (n : ℕ) → State F r a → length (repairStores F W a) ≤ n → left n ≡ over r (copy0 F a) ++ over r (copy1 F a)
+  repair-over n s h =
+      let p = mended-at n s .ends h in
+      let e0 : copy0 F a ≡ s .x = parts-copy0 F a (s .x) (s .y) (s .parts) in
+      let e1 : copy1 F a ≡ s .y = parts-copy1 F a (s .x) (s .y) (s .parts) in
+      left-parts n s .whole
+      ∙ ap (λ (l : List ℕ). l ++ mended-at n s .y′) (p .0 ∙ ap (over r) (sym e0))
+      ∙ ap (λ (l : List ℕ). over r (copy0 F a) ++ l) (p .1 ∙ ap (over r) (sym e1))
 
   -- a repair of two sound and equal copies lists no store
   pub settled-none : Settled F r a → repairStores F W a ≡ []

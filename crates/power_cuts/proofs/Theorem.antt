@@ -13,6 +13,7 @@ use Rattle.power_cuts.specs.Format.{Format, FormatLaws, Writer, WriterLa
 use Rattle.power_cuts.specs.Theorem.{recordRead, BothHold, changeCut, Event, Lasts, Survives, PowerCuts}
 use Rattle.power_cuts.proofs.Parts.{parts-of, State, Settled, state-read, state-area, state-of, settled-state, settled-both}
 use Rattle.power_cuts.proofs.Change.{into0, early, late, settled, all-bytes}
+use Rattle.power_cuts.proofs.Repair.{repair-over}
 use Rattle.power_cuts.proofs.Lists.{lasts}
 
 module _ (F : Format) (laws : FormatLaws F) (W : Writer) (w : WriterLaws F W) (a old new : List ℕ) (area : Area F a)
@@ -81,4 +82,5 @@ power-cuts F laws W w =
     record {
       change = λ a old new n es area both bytes-new sound-new. survives F laws W w a old new area both bytes-new sound-new n es;
       anywhere = λ a r es area e. lasts F laws W w r a es (state-of F r a area e);
+      repair = λ a r n area e h. repair-over F laws W w r a n (state-of F r a area e) h;
     }

@@ -10,6 +10,7 @@ use native.Mathlib.Omega.{arith}
 use borrow.Author.Tests.{le-leb, eq-eqb}
 use lib.Dec.{leb}
 use lib.ListN.{length, getD, List·getD-append}
+use lib.Seq.{take-length}
 use Rattle.fields.specs.Number.{le}
 use Rattle.fields.specs.Guid.{same}
 use Rattle.fields.proofs.Number.{le-same}
@@ -28,7 +29,7 @@ use Rattle.copies.specs.declared.Source.{Source}
 use Rattle.copies.specs.declared.Source.the-variants.{Copy0, Copy1, Neither}
 use Rattle.start_up.specs.StartUp.{startedFrom, startedAt, startUp}
 use Rattle.stores.specs.Stores.{Store, plan}
-use Rattle.power_cuts.specs.Area.{Bytes, afterCut}
+use Rattle.power_cuts.specs.Area.{Bytes, afterStores, afterCut}
 use Rattle.power_cuts.specs.Format.{FormatLaws, WriterLaws}
 use Rattle.power_cuts.specs.Format as format
 use Rattle.power_cuts.specs.Theorem.{PowerCuts, Event}
@@ -233,6 +234,15 @@ module _ (a new : List ℕ) (n : ℕ) (es : List Event) (l : length a ≡ areaSi
             (λ e. lasts-of (cut a new n) new es cut-long (rw (cut-is a new n) at e) lasts-cut) (h .either);
       }
 
+repair-ends : (a : List ℕ) → length a ≡ areaSize → Bytes a → sourceOf a ≢ Neither
+    → afterStores a (repairStores a) ≡ format.over (readFrom (sourceOf a) a) (copy0 a) ++ format.over (readFrom (sourceOf a) a) (copy1 a)
+unfolding afterCut version2
+repair-ends a l b s =
+    let e : general.recordRead version2 a ≡ some (readFrom (sourceOf a) a) = read-shown a ∙ from-shown (sourceOf a) a s in
+    ap (afterStores a) (sym (repair-is a))
+    ∙ ap (afterStores a) (sym (take-length (general.repairStores version2 planned a)))
+    ∙ power-cuts-2 .repair a (readFrom (sourceOf a) a) (length (general.repairStores version2 planned a)) (area-of a l b) e (omega arith)
+
 pub demand3 : Demand3
 unfolding version2
 demand3 =
@@ -243,4 +253,5 @@ demand3 =
           let e : general.recordRead version2 a ≡ some (readFrom (sourceOf a) a) = read-shown a ∙ from-shown (sourceOf a) a s in
           lasts-of a (readFrom (sourceOf a) a) es l e (power-cuts-2 .anywhere a (readFrom (sourceOf a) a) es (area-of a l b) e);
       repairs = repair-is;
+      repair = repair-ends;
     }

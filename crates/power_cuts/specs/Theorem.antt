@@ -100,9 +100,15 @@ pub record Survives (F : Format) (W : Writer) (a old new : List ℕ) (n : ℕ) (
   pub later : (m : ℕ) → n ≤ m → recordRead F (changeCut F W a new n) ≡ some new → recordRead F (changeCut F W a new m) ≡ some new
   pub lasts : Lasts F W (changeCut F W a new n) es
 
+-- A repair with all its stores done: "After all stores both copies hold the new record", here the one read, "and every other byte of the area
+-- is as before. .. Repair gives such a list too"
+abbrev pub RepairEnds : Format → Writer → (a r : List ℕ) (n : ℕ) → Type 0
+RepairEnds F W a r n = length (repairStores F W a) ≤ n → afterCut a (repairStores F W a) n ≡ over r (copy0 F a) ++ over r (copy1 F a)
+
 -- Demand 3: "Start from two sound, equal copies of the record, take any accepted change and cut it after any number of its stores"; and "Go on
 -- from what that cut left, or from any other area with a sound copy."
 pub record PowerCuts (F : Format) (W : Writer) : Type 0 where
   pub change : (a old new : List ℕ) (n : ℕ) (es : List Event) → Area F a → BothHold F old a → Bytes new → F .sound new ≡ true
       → Survives F W a old new n es
   pub anywhere : (a r : List ℕ) (es : List Event) → Area F a → recordRead F a ≡ some r → Lasts F W a es
+  pub repair : (a r : List ℕ) (n : ℕ) → Area F a → recordRead F a ≡ some r → RepairEnds F W a r n

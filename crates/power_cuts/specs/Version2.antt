@@ -16,7 +16,7 @@ use Rattle.copies.specs.declared.Source.{Source}
 use Rattle.copies.specs.declared.Source.the-variants.{Copy0, Copy1, Neither}
 use Rattle.start_up.specs.StartUp.{startUp}
 use Rattle.stores.specs.Stores.{Store, storeNumbers, otherWords, differing, writes, plan}
-use Rattle.power_cuts.specs.Area.{Bytes, afterCut}
+use Rattle.power_cuts.specs.Area.{Bytes, afterStores, afterCut}
 use Rattle.power_cuts.specs.Format.{Format, Writer, over}
 use Rattle.power_cuts.specs.Theorem.{Event, afterList, Finished}
 use Rattle.power_cuts.specs.Theorem as general
@@ -77,9 +77,12 @@ pub record Survives2 (a new : List ℕ) (n : ℕ) (es : List Event) : Type 0 whe
   pub later : (m : ℕ) → n ≤ m → Reads (cut a new n) new → Reads (cut a new m) new
   pub lasts : Lasts2 (cut a new n) es
 
--- Demand 3 at record version 2, for any change to a sound record. The repairs of a list are the product's: `repairs`
+-- Demand 3 at record version 2, for any change to a sound record. The repairs of a list are the product's (`repairs`), and
+-- one with all its stores done leaves the record read in both copies and every other byte as before (`repair`)
 pub record Demand3 : Type 0 where
   pub change : (a new : List ℕ) (n : ℕ) (es : List Event) → length a ≡ areaSize → Bytes a → soundAndEqual a ≡ true → Bytes new
       → sound new ≡ true → Survives2 a new n es
   pub anywhere : (a : List ℕ) (es : List Event) → length a ≡ areaSize → Bytes a → sourceOf a ≢ Neither → Lasts2 a es
   pub repairs : (a : List ℕ) → general.repairStores version2 planned a ≡ repairStores a
+  pub repair : (a : List ℕ) → length a ≡ areaSize → Bytes a → sourceOf a ≢ Neither
+      → afterStores a (repairStores a) ≡ over (readFrom (sourceOf a) a) (copy0 a) ++ over (readFrom (sourceOf a) a) (copy1 a)
