@@ -34,6 +34,7 @@ use Rattle.power_cuts.specs.Format.{FormatLaws, WriterLaws}
 use Rattle.power_cuts.specs.Format as format
 use Rattle.power_cuts.specs.Theorem.{PowerCuts, Event}
 use Rattle.power_cuts.specs.Theorem as general
+use Rattle.repair.specs.Repair as entry
 use Rattle.power_cuts.specs.Version2.{recordLength, version2, planned, copyStores, changeStores, otherStores, repairStores, Reads, left, cut, Lasts2, Survives2, Demand3}
 use Rattle.power_cuts.proofs.Plan.{plan-writes}
 use Rattle.power_cuts.proofs.Theorem.{power-cuts}
@@ -118,11 +119,6 @@ from-shown Copy0 a h = refl
 from-shown Copy1 a h = refl
 from-shown Neither a h = absurd (h refl)
 
-reads-of : (a r : List ℕ) → general.recordRead version2 a ≡ some r → Reads a r
-reads-of a r e =
-    let p = shown-from (sourceOf a) a r (sym (read-shown a) ∙ e) in
-    record { one-sound = p .0; is = p .1 }
-
 read-of : (a r : List ℕ) → Reads a r → general.recordRead version2 a ≡ some r
 read-of a r h = read-shown a ∙ from-shown (sourceOf a) a (h .one-sound) ∙ ap {B = Option (List ℕ)} (λ (l : List ℕ). some l) (h .is)
 
@@ -141,6 +137,15 @@ start-is : (a : List ℕ) (booted : ℕ) → length a ≡ areaSize → startUp a
 unfolding startUp
 start-is a booted l =
     rw (eq-eqb (length a) areaSize l) (started-shown (sourceOf a) a booted ∙ ap (λ (o : Option (List ℕ)). startedOf o booted) (sym (read-shown a)))
+
+reads-of : (a r : List ℕ) → length a ≡ areaSize → general.recordRead version2 a ≡ some r → Reads a r
+reads-of a r l e =
+    let p = shown-from (sourceOf a) a r (sym (read-shown a) ∙ e) in
+    record {
+      one-sound = p .0;
+      is = p .1;
+      answers = λ booted. start-is a booted l ∙ ap (λ (o : Option (List ℕ)). startedOf o booted) e
+    }
 
 -- two sound and equal copies
 both-of : (a : List ℕ) → soundAndEqual a ≡ true → general.BothHold version2 (recordOf (copy0 a)) a
@@ -182,6 +187,30 @@ repair-is a = ap (cond (soundAndEqual a) []) (go (soundCopy (copy0 a)) (soundCop
     go false true = refl
     go false false = refl
 
+-- the stores of repair's own clause, by the copy that is read and by whether the copies are sound and equal
+abbrev listed : List ℕ → Source → Bool → List Store
+listed a Copy0 b = cond b [] (plan copySize (copy1 a) (recordOf (copy0 a)))
+listed a Copy1 b = plan 0 (copy0 a) (recordOf (copy1 a))
+listed a Neither b = []
+
+entry-listed : (a : List ℕ) (s : Source) → listed a s (soundAndEqual a) ≡ entry.repairStores s a
+unfolding entry.repairStores
+entry-listed a Copy0 = refl
+entry-listed a Copy1 = refl
+entry-listed a Neither = refl
+
+entry-is : (a : List ℕ) → repairStores a ≡ entry.repairStores (sourceOf a) a
+unfolding repairStores otherStores sourceOf soundAndEqual
+entry-is a = go (soundCopy (copy0 a)) (soundCopy (copy1 a)) (recordsEqual a) ∙ entry-listed a (sourceOf a)
+  where
+    go : (s t e : Bool)
+        → cond ((s && t) && e) [] (otherStores (cond s Copy0 (cond t Copy1 Neither)) a) ≡ listed a (cond s Copy0 (cond t Copy1 Neither)) ((s && t) && e)
+    go true true true = refl
+    go true true false = refl
+    go true false e = refl
+    go false true e = refl
+    go false false e = refl
+
 cut-is : (a new : List ℕ) (n : ℕ) → general.changeCut version2 planned a new n ≡ cut a new n
 unfolding general.changeCut
 cut-is a new n = ap (λ (ss : List Store). afterCut a ss n) (change-is a new)
@@ -190,9 +219,9 @@ cut-is a new n = ap (λ (ss : List Store). afterCut a ss n) (change-is a new)
 lasts-of : (a r : List ℕ) (es : List Event) → length a ≡ areaSize → general.recordRead version2 a ≡ some r
     → general.Lasts version2 planned a es → Lasts2 a es
 lasts-of a r es l e h =
-    let is : Reads a r = reads-of a r e in
+    let is : Reads a r = reads-of a r l e in
     record {
-      reads = rw (is .is) (reads-of (left a es) r (h .reads ∙ e));
+      reads = rw (is .is) (reads-of (left a es) r (h .kept ∙ l) (h .reads ∙ e));
       answers = λ booted.
           start-is (left a es) booted (h .kept ∙ l)
           ∙ ap (λ (o : Option (List ℕ)). startedOf o booted) (h .reads)
@@ -200,17 +229,17 @@ lasts-of a r es l e h =
       repaired = λ f. of-both (left a es) (h .repaired f .0) (h .repaired f .2);
     }
 
-module _ (a new : List ℕ) (n : ℕ) (es : List Event) (l : length a ≡ areaSize)
+module _ (a new : List ℕ) (n : ℕ) (es : List Event) (long : (m : ℕ) → length (general.changeCut version2 planned a new m) ≡ areaSize)
     (h : general.Survives version2 planned a (recordOf (copy0 a)) new n es) where
+  cut-long : (m : ℕ) → length (cut a new m) ≡ areaSize
+  cut-long m = rw (cut-is a new m) at (long m)
+
   old-read : general.recordRead version2 (general.changeCut version2 planned a new n) ≡ some (recordOf (copy0 a))
       → Reads (cut a new n) (recordOf (copy0 a))
-  old-read e = reads-of (cut a new n) (recordOf (copy0 a)) (rw (cut-is a new n) at e)
+  old-read e = reads-of (cut a new n) (recordOf (copy0 a)) (cut-long n) (rw (cut-is a new n) at e)
 
   new-read : (m : ℕ) → general.recordRead version2 (general.changeCut version2 planned a new m) ≡ some new → Reads (cut a new m) new
-  new-read m e = reads-of (cut a new m) new (rw (cut-is a new m) at e)
-
-  cut-long : length (cut a new n) ≡ areaSize
-  cut-long = rw (cut-is a new n) at (h .kept ∙ l)
+  new-read m e = reads-of (cut a new m) new (cut-long m) (rw (cut-is a new m) at e)
 
   all-stores : length (changeStores a new) ≤ n → length (general.changeStores version2 planned a new) ≤ n
   all-stores k = rw (change-is a new) k
@@ -230,8 +259,8 @@ module _ (a new : List ℕ) (n : ℕ) (es : List Event) (l : length a ≡ areaSi
         later = λ m k e. new-read m (h .later m k (rw (cut-is a new n) (read-of (cut a new n) new e)));
         lasts =
             ⊎-elim
-            (λ e. lasts-of (cut a new n) (recordOf (copy0 a)) es cut-long (rw (cut-is a new n) at e) lasts-cut)
-            (λ e. lasts-of (cut a new n) new es cut-long (rw (cut-is a new n) at e) lasts-cut) (h .either);
+            (λ e. lasts-of (cut a new n) (recordOf (copy0 a)) es (cut-long n) (rw (cut-is a new n) at e) lasts-cut)
+            (λ e. lasts-of (cut a new n) new es (cut-long n) (rw (cut-is a new n) at e) lasts-cut) (h .either);
       }
 
 repair-ends : (a : List ℕ) → length a ≡ areaSize → Bytes a → sourceOf a ≢ Neither
@@ -248,10 +277,13 @@ unfolding version2
 demand3 =
     record {
       change = λ a new n es l b e bn sn.
-          survives-of a new n es l (power-cuts-2 .change a (recordOf (copy0 a)) new n es (area-of a l b) (both-of a e) bn sn);
+          survives-of a new n es
+          (λ m. power-cuts-2 .change a (recordOf (copy0 a)) new m es (area-of a l b) (both-of a e) bn sn .kept ∙ l)
+          (power-cuts-2 .change a (recordOf (copy0 a)) new n es (area-of a l b) (both-of a e) bn sn);
       anywhere = λ a es l b s.
           let e : general.recordRead version2 a ≡ some (readFrom (sourceOf a) a) = read-shown a ∙ from-shown (sourceOf a) a s in
           lasts-of a (readFrom (sourceOf a) a) es l e (power-cuts-2 .anywhere a (readFrom (sourceOf a) a) es (area-of a l b) e);
       repairs = repair-is;
+      entry-lists = entry-is;
       repair = repair-ends;
     }

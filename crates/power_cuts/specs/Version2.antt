@@ -14,7 +14,8 @@ use Rattle.record.specs.Rules.{sound}
 use Rattle.copies.specs.Copies.{sourceOf, readFrom, soundAndEqual}
 use Rattle.copies.specs.declared.Source.{Source}
 use Rattle.copies.specs.declared.Source.the-variants.{Copy0, Copy1, Neither}
-use Rattle.start_up.specs.StartUp.{startUp}
+use Rattle.start_up.specs.StartUp.{startUp, startedFrom}
+use Rattle.repair.specs.Repair as entry
 use Rattle.stores.specs.Stores.{Store, storeNumbers, otherWords, differing, writes, plan}
 use Rattle.power_cuts.specs.Area.{Bytes, afterStores, afterCut}
 use Rattle.power_cuts.specs.Format.{Format, Writer, over}
@@ -48,10 +49,11 @@ otherStores Neither a = []
 unfoldable pub repairStores : List ℕ → List Store
 repairStores a = cond (soundAndEqual a) [] (otherStores (sourceOf a) a)
 
--- start-up reads the record r from a
+-- start-up reads the record r from a, and "for any booted bank it answers the session, or refusal 28, that this page gives for that record"
 pub record Reads (a r : List ℕ) : Type 0 where
   pub one-sound : sourceOf a ≢ Neither
   pub is : readFrom (sourceOf a) a ≡ r
+  pub answers : (booted : ℕ) → startUp a booted ≡ startedFrom r booted
 
 -- the area after a list of start-ups and repairs
 abbrev pub left : List ℕ → List Event → List ℕ
@@ -68,7 +70,8 @@ pub record Lasts2 (a : List ℕ) (es : List Event) : Type 0 where
   pub answers : (booted : ℕ) → startUp (left a es) booted ≡ startUp a booted
   pub repaired : Finished version2 planned a es → soundAndEqual (left a es) ≡ true
 
--- what a change that is cut after n of its stores leaves, clause by clause as in `Survives` of specs/Theorem.antt
+-- what a change that is cut after n of its stores leaves, clause by clause as in `Survives` of specs/Theorem.antt; that the area keeps its
+-- length is in start-up's answers, which are not 20
 pub record Survives2 (a new : List ℕ) (n : ℕ) (es : List Event) : Type 0 where
   pub either : Reads (cut a new n) (recordOf (copy0 a)) ⊎ Reads (cut a new n) new
   pub first : n ≡ 0 → Reads (cut a new n) (recordOf (copy0 a))
@@ -77,12 +80,14 @@ pub record Survives2 (a new : List ℕ) (n : ℕ) (es : List Event) : Type 0 whe
   pub later : (m : ℕ) → n ≤ m → Reads (cut a new n) new → Reads (cut a new m) new
   pub lasts : Lasts2 (cut a new n) es
 
--- Demand 3 at record version 2, for any change to a sound record. The repairs of a list are the product's (`repairs`), and
+-- Demand 3 at record version 2, for any change to a sound record. The repairs of a list are those that
+-- the clause of the entry `repair` lists (`repairs`, `entry-lists`), and
 -- one with all its stores done leaves the record read in both copies and every other byte as before (`repair`)
 pub record Demand3 : Type 0 where
   pub change : (a new : List ℕ) (n : ℕ) (es : List Event) → length a ≡ areaSize → Bytes a → soundAndEqual a ≡ true → Bytes new
       → sound new ≡ true → Survives2 a new n es
   pub anywhere : (a : List ℕ) (es : List Event) → length a ≡ areaSize → Bytes a → sourceOf a ≢ Neither → Lasts2 a es
   pub repairs : (a : List ℕ) → general.repairStores version2 planned a ≡ repairStores a
+  pub entry-lists : (a : List ℕ) → repairStores a ≡ entry.repairStores (sourceOf a) a
   pub repair : (a : List ℕ) → length a ≡ areaSize → Bytes a → sourceOf a ≢ Neither
       → afterStores a (repairStores a) ≡ over (readFrom (sourceOf a) a) (copy0 a) ++ over (readFrom (sourceOf a) a) (copy1 a)
