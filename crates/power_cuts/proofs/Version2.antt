@@ -144,7 +144,7 @@ reads-of a r l e =
     record {
       one-sound = p .0;
       is = p .1;
-      answers = λ booted. start-is a booted l ∙ ap (λ (o : Option (List ℕ)). startedOf o booted) e
+      answers = λ booted. start-is a booted l ∙ ap (λ (o : Option (List ℕ)). startedOf o booted) e;
     }
 
 -- two sound and equal copies
