@@ -11,7 +11,7 @@ ghost use Rattle.fields.specs.Guid.{guid, same};
 ghost use Rattle.fields.specs.Number.{le};
 ghost use Rattle.record.specs.Every.{below};
 ghost use Rattle.record.specs.Layout.{entryAt};
-ghost use Rattle.record.specs.Rules.{reservedRule, acceptedRule, typeGuidsRule, stateRight, statesRule, allAccepted, bankRight, banksRule};
+ghost use Rattle.record.specs.Rules.{reservedRule, acceptedRule, typeGuidsRule, stateAllowed, statesRule, allAccepted, bankConsistent, banksRule};
 ghost use Rattle.record.specs.Sized.{Sized, bankWords};
 
 // Whether, in each bank of image i, the word at `from` in the bank's entry is at most `limit`.
@@ -102,8 +102,8 @@ pub fn type_guids_rule(r: &[u8], banks: usize, images: usize) -> bool
 }
 
 // Whether s may be the state of bank b.
-fn state_right(banks: usize, b: usize, s: u8) -> bool
-    ensures { λ x. ⌜ x ≡ stateRight banks b s ⌝ }
+fn state_allowed(banks: usize, b: usize, s: u8) -> bool
+    ensures { λ x. ⌜ x ≡ stateAllowed banks b s ⌝ }
 {
     if s == 255 {
         return true;
@@ -124,7 +124,7 @@ pub fn states_rule(r: &[u8], banks: usize, images: usize) -> bool
 {
     let mut b = 0;
     while b < 4 {
-        if !state_right(banks, b, r[24 + b]) {
+        if !state_allowed(banks, b, r[24 + b]) {
             return false;
         }
         b += 1;
@@ -148,9 +148,9 @@ pub fn all_accepted(r: &[u8], banks: usize, images: usize, b: usize) -> bool
 }
 
 // Whether the state of bank b fits what is accepted there.
-fn bank_right(r: &[u8], banks: usize, images: usize, b: usize) -> bool
+fn bank_consistent(r: &[u8], banks: usize, images: usize, b: usize) -> bool
     requires { ⌜ Sized (now r) banks images × (b < banks) ⌝ }
-    ensures { λ x. ⌜ x ≡ bankRight (now (r .entry)) b ⌝ }
+    ensures { λ x. ⌜ x ≡ bankConsistent (now (r .entry)) b ⌝ }
 {
     let s = r[24 + b];
     if s == 252 {
@@ -169,7 +169,7 @@ pub fn banks_rule(r: &[u8], banks: usize, images: usize, active: usize) -> bool
 {
     let mut b = 0;
     while b < banks {
-        if !bank_right(r, banks, images, b) {
+        if !bank_consistent(r, banks, images, b) {
             return false;
         }
         b += 1;

@@ -9,7 +9,7 @@ use lib.ListN.{length, take, drop, getD, take-append-drop}
 use lib.Seq.{take-all, take-append-seam, drop-append-seam}
 use Rattle.fields.specs.Guid.{same}
 use Rattle.fields.proofs.Guid.{same-true}
-use Rattle.stores.specs.Stores.{versionAt}
+use Rattle.record.specs.Layout.{versionAt}
 use Rattle.power_cuts.specs.Area.{Bytes, afterStores, afterCut}
 use Rattle.power_cuts.specs.Format.{Format, FormatLaws, Writer, WriterLaws, Writable, recordOf, soundCopy, over, Inside}
 use Rattle.power_cuts.proofs.Words.{take-bytes}

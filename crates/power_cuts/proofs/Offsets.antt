@@ -7,14 +7,15 @@ use Prim.Native.Nat.{ℕ, _+_, _*_, _-_, _/_, _%_, _≤_}
 use native.Mathlib.Omega.{arith}
 use lib.ListN.{length, length-map, length-append}
 use Rattle.fields.specs.Guid.{same}
-use Rattle.record.specs.Layout.{copySize, recordOf, copy0, copy1}
+use Rattle.record.specs.Layout.{copySize, versionAt, recordOf, copy0, copy1}
 use Rattle.record.specs.Rules.{sound}
 use Rattle.copies.specs.Copies.{sourceOf, readFrom, soundAndEqual}
 use Rattle.copies.specs.declared.Source.{Source}
 use Rattle.copies.specs.declared.Source.the-variants.{Copy0, Copy1, Neither}
 use Rattle.copies.proofs.Reading.{from-copy0, from-copy1}
-use Rattle.stores.specs.Stores.{Store, store, shift, storeNumbers, versionAt, otherWords, differing, writes, plan}
-use Rattle.power_cuts.specs.Version2.{copyStores, changeStores, otherStores, repairStores}
+use Rattle.stores.specs.Stores.{Store, store, shift, storeNumbers, otherWords, differing, writes, plan}
+use Rattle.power_cuts.specs.Version2.{otherStores, repairStores}
+use Rattle.changes.specs.ChangeStores.{copyStores, changeStores}
 use Rattle.power_cuts.specs.Offsets.{Placed, Each, InEither, StoreRules}
 use Rattle.power_cuts.proofs.Plan.{offsets-high, offsets-aligned, length-offsets, differing-mem, length-differing}
 use Rattle.power_cuts.proofs.Version2.{in-words, record-high}

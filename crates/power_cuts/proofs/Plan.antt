@@ -12,7 +12,8 @@ use lib.ListN.{length, take, drop, getD, length-append, length-drop, List·getD-
 use lib.Seq.{take-append-le, getD-append-add, getD-drop, ext-getD}
 use Rattle.fields.specs.Number.{le}
 use Rattle.fields.proofs.Number.{le-bytes}
-use Rattle.stores.specs.Stores.{store, offsets, otherWords, differing, writes, versionAt}
+use Rattle.record.specs.Layout.{versionAt}
+use Rattle.stores.specs.Stores.{store, offsets, otherWords, differing, writes}
 use Rattle.power_cuts.specs.Area.{Bytes, afterStore, afterStores, afterCut}
 use Rattle.power_cuts.specs.Format.{Format, FormatLaws, Writable, WriterLaws, Inside, over}
 use Rattle.power_cuts.specs.Version2.{planned}

@@ -35,8 +35,8 @@ sampleRecord =
 
 sample-sound : rule.sound sampleRecord ≡ true
 unfolding sampleRecord rule.sound rule.versionRule rule.bankCountRule rule.imageCountRule rule.bankEntrySizeRule rule.imageEntrySizeRule
-    rule.sizeRule rule.descriptorOffsetRule rule.reservedRule rule.banksNamedRule rule.acceptedRule rule.typeGuidsRule rule.stateRight
-    rule.statesRule rule.allAccepted rule.bankRight rule.banksRule rule.crcRule below le guid same step steps withByte withBytes crc32Of
+    rule.sizeRule rule.descriptorOffsetRule rule.reservedRule rule.banksNamedRule rule.acceptedRule rule.typeGuidsRule rule.stateAllowed
+    rule.statesRule rule.allAccepted rule.bankConsistent rule.banksRule rule.crcRule below le guid same step steps withByte withBytes crc32Of
 sample-sound = refl
 
 -- bytes

@@ -8,7 +8,6 @@ use mathlib.Core.Bool.{true, cond}
 use mathlib.Core.List.{List, [], _++_}
 use lib.Dec.{leb}
 use lib.ListN.{length}
-use Rattle.fields.specs.Guid.{same}
 use Rattle.record.specs.Layout.{areaSize, copySize, headerSize, size, recordOf, copy0, copy1}
 use Rattle.record.specs.Rules.{sound}
 use Rattle.copies.specs.Copies.{sourceOf, readFrom, soundAndEqual}
@@ -16,6 +15,7 @@ use Rattle.copies.specs.declared.Source.{Source}
 use Rattle.copies.specs.declared.Source.the-variants.{Copy0, Copy1, Neither}
 use Rattle.start_up.specs.StartUp.{startUp, startedFrom}
 use Rattle.repair.specs.Repair as entry
+use Rattle.changes.specs.ChangeStores.{changeStores}
 use Rattle.stores.specs.Stores.{Store, storeNumbers, otherWords, differing, writes, plan}
 use Rattle.power_cuts.specs.Area.{Bytes, afterStores, afterCut}
 use Rattle.power_cuts.specs.Format.{Format, Writer, over}
@@ -32,13 +32,6 @@ version2 = record { copySize = copySize; storeNumbers = storeNumbers; sizeOf = r
 -- plan of crates/stores, with offsets from the copy's start
 unfoldable pub planned : Writer
 planned c r = writes r (differing c r (otherWords r))
-
--- the stores of a change: none into a copy that holds the new record already, else its plan; copy 0 whole before copy 1
-unfoldable pub copyStores : ℕ → List ℕ → List ℕ → List Store
-copyStores base c new = cond (same (recordOf c) new) [] (plan base c new)
-
-unfoldable pub changeStores : List ℕ → List ℕ → List Store
-changeStores a new = copyStores 0 (copy0 a) new ++ copyStores copySize (copy1 a) new
 
 -- the stores of a repair: "none if the copies are sound and equal, else the record read goes into the other copy"
 unfoldable pub otherStores : Source → List ℕ → List Store

@@ -8,8 +8,8 @@ use borrow.Author.Tests.{eqb-true, leb-true, ltb-true}
 use lib.Dec.{eqb, leb, ltb}
 use lib.ListN.{length, take, drop}
 use Rattle.fields.proofs.Tests.{both}
-use Rattle.record.specs.Layout.{headerSize, imageLimit, bankLimit, version, active, previous, size, bankCount, imageCount, imageEntrySize, entrySize, recordSize}
-use Rattle.record.specs.Rules.{versionRule, bankCountRule, imageCountRule, imageEntrySizeRule, sizeRule, banksNamedRule, rules, each, sound}
+use Rattle.record.specs.Layout.{imageLimit, bankLimit, version, active, previous, size, bankCount, imageCount, recordSize}
+use Rattle.record.specs.Rules.{versionRule, bankCountRule, imageCountRule, sizeRule, banksNamedRule, rules, each, sound}
 use Rattle.record.specs.Sized.{Sized, firstSix, lastEight}
 
 -- tests in two parts
@@ -34,13 +34,12 @@ all-of (t ∷ ts) r e = let p = both (t r) (each ts r) e in (p .0, all-of ts r (
 
 -- rules 2 to 6 give the length
 pub sized-of : (r : List ℕ) → firstSix r ≡ true → Sized r (bankCount r) (imageCount r)
-unfolding firstSix bankCountRule imageCountRule imageEntrySizeRule sizeRule
+unfolding firstSix bankCountRule imageCountRule sizeRule
 sized-of r e =
     let p : All (take 6 rules) r = all-of (take 6 rules) r e in
     let banks = both (leb 2 (bankCount r)) (leb (bankCount r) bankLimit) (p .1 .0) in
     let images = both (leb 1 (imageCount r)) (leb (imageCount r) imageLimit) (p .1 .1 .0) in
-    let entry = eqb-true (imageEntrySize r) (entrySize (bankCount r)) (p .1 .1 .1 .1 .0) in
-    let long = both (eqb (size r) (headerSize + imageCount r * imageEntrySize r)) (eqb (length r) (size r)) (p .1 .1 .1 .1 .1 .0) in
+    let long = both (eqb (size r) (recordSize (bankCount r) (imageCount r))) (eqb (length r) (size r)) (p .1 .1 .1 .1 .1 .0) in
     record {
       banks-is = refl;
       images-is = refl;
@@ -49,9 +48,7 @@ sized-of r e =
       images-low = leb-true 1 (imageCount r) (images .0);
       images-high = leb-true (imageCount r) imageLimit (images .1);
       long =
-          eqb-true (length r) (size r) (long .1)
-          ∙ eqb-true (size r) (headerSize + imageCount r * imageEntrySize r) (long .0)
-          ∙ ap (λ (n : ℕ). headerSize + imageCount r * n) entry;
+          eqb-true (length r) (size r) (long .1) ∙ eqb-true (size r) (recordSize (bankCount r) (imageCount r)) (long .0);
     }
 
 pub six-of : (r : List ℕ) → sound r ≡ true → firstSix r ≡ true
@@ -69,7 +66,7 @@ pub sound-size : (r : List ℕ) → sound r ≡ true → length r ≡ size r
 unfolding sound sizeRule
 sound-size r e =
     eqb-true (length r) (size r)
-    (both (eqb (size r) (headerSize + imageCount r * imageEntrySize r)) (eqb (length r) (size r)) (all-of rules r e .1 .1 .1 .1 .1 .0) .1)
+    (both (eqb (size r) (recordSize (bankCount r) (imageCount r))) (eqb (length r) (size r)) (all-of rules r e .1 .1 .1 .1 .1 .0) .1)
 
 pub named-of : (r : List ℕ) → banksNamedRule r ≡ true → (active r < bankCount r) × (previous r < bankCount r)
 unfolding banksNamedRule

@@ -1,5 +1,5 @@
--- Record version 2: where each field stands (document 01, "The record"). r is the bytes of a record, the first at offset 0. Sizes,
--- limits and offsets stand here and nowhere else in the definitions. Assumes nothing.
+-- Record version 2: where each field stands (document 01, "The record"). r is the bytes of a record, the first at offset 0. The definitions
+-- take sizes, limits and offsets from here. Assumes nothing.
 use Prim.Native.Nat.{ℕ, _+_, _*_, _%_}
 use mathlib.Core.Bool.{cond}
 use mathlib.Core.List.{List}
@@ -15,30 +15,48 @@ areaSize = 16384
 abbrev pub copySize : ℕ
 copySize = 8192
 
+abbrev pub copy0 : List ℕ → List ℕ
+copy0 a = take copySize a
+
+abbrev pub copy1 : List ℕ → List ℕ
+copy1 a = take copySize (drop copySize a)
+
 -- "Entries start at 40"
 abbrev pub headerSize : ℕ
 headerSize = 40
-
--- "images 1 to 32"
-abbrev pub imageLimit : ℕ
-imageLimit = 32
 
 -- "banks 2 to 4", and as many bank-state bytes
 abbrev pub bankLimit : ℕ
 bankLimit = 4
 
+-- "images 1 to 32"
+abbrev pub imageLimit : ℕ
+imageLimit = 32
+
 -- "crc_32 at 0, version 4, active 8, previous 12, size 16 (32 bits each)"
+abbrev pub crcAt : ℕ
+crcAt = 0
+
+abbrev pub versionAt : ℕ
+versionAt = 4
+
+abbrev pub activeAt : ℕ
+activeAt = 8
+
+abbrev pub previousAt : ℕ
+previousAt = 12
+
 abbrev pub crc : List ℕ → ℕ
-crc r = le 4 r 0
+crc r = le 4 r crcAt
 
 abbrev pub version : List ℕ → ℕ
-version r = le 4 r 4
+version r = le 4 r versionAt
 
 abbrev pub active : List ℕ → ℕ
-active r = le 4 r 8
+active r = le 4 r activeAt
 
 abbrev pub previous : List ℕ → ℕ
-previous r = le 4 r 12
+previous r = le 4 r previousAt
 
 abbrev pub size : List ℕ → ℕ
 size r = le 4 r 16
@@ -113,13 +131,6 @@ reserved r i b = le 4 r (reservedAt (bankCount r) i b)
 -- right it is never below the header's
 unfoldable pub recordOf : List ℕ → List ℕ
 recordOf c = take (cond (leb headerSize (size c)) (size c) headerSize) c
-
--- "copy 0 at 0, copy 1 at 8,192"
-abbrev pub copy0 : List ℕ → List ℕ
-copy0 a = take copySize a
-
-abbrev pub copy1 : List ℕ → List ℕ
-copy1 a = take copySize (drop copySize a)
 
 -- "the update bank is (active + 1) mod banks"
 abbrev pub updateBank : (banks active : ℕ) → ℕ

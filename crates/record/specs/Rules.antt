@@ -8,7 +8,7 @@ use lib.ListN.{length, drop}
 use Rattle.fields.specs.Guid.{same}
 use Rattle.crc.specs.Crc.{crc32Of}
 use Rattle.record.specs.Every.{below}
-use Rattle.record.specs.Layout.{headerSize, imageLimit, bankLimit, crc, version, active, previous, size, descriptorOffset, reserved22, state, reserved28, bankCount, reserved33, imageCount, imageEntrySize, bankEntrySize, entrySize, typeGuid, accepted, reserved, recordOf}
+use Rattle.record.specs.Layout.{imageLimit, bankLimit, crc, version, active, previous, size, descriptorOffset, reserved22, state, reserved28, bankCount, reserved33, imageCount, imageEntrySize, bankEntrySize, entrySize, recordSize, typeGuid, accepted, reserved, recordOf}
 
 -- 1: "version is 2"
 unfoldable pub versionRule : List ℕ → Bool
@@ -30,9 +30,10 @@ bankEntrySizeRule r = eqb (bankEntrySize r) 24
 unfoldable pub imageEntrySizeRule : List ℕ → Bool
 imageEntrySizeRule r = eqb (imageEntrySize r) (entrySize (bankCount r))
 
--- 6: "size 40 + images x entry size", and so many bytes are there
+-- 6: "size 40 + images x entry size"; and the record is as many bytes long, which `recordOf` takes care of for a copy of 8,192 bytes, and which
+-- keeps a list of other bytes that only names such a size from being called a record
 unfoldable pub sizeRule : List ℕ → Bool
-sizeRule r = eqb (size r) (headerSize + imageCount r * imageEntrySize r) && eqb (length r) (size r)
+sizeRule r = eqb (size r) (recordSize (bankCount r) (imageCount r)) && eqb (length r) (size r)
 
 -- 7: "descriptor offset 32"
 unfoldable pub descriptorOffsetRule : List ℕ → Bool
@@ -73,23 +74,23 @@ acceptedBank = 252
 abbrev pub stateKnown : ℕ → Bool
 stateKnown s = eqb s invalid || (eqb s valid || eqb s acceptedBank)
 
-unfoldable pub stateRight : ℕ → ℕ → ℕ → Bool
-stateRight banks b s = cond (ltb b banks) (stateKnown s) (eqb s invalid)
+unfoldable pub stateAllowed : ℕ → ℕ → ℕ → Bool
+stateAllowed banks b s = cond (ltb b banks) (stateKnown s) (eqb s invalid)
 
 unfoldable pub statesRule : List ℕ → Bool
-statesRule r = below bankLimit (λ b. stateRight (bankCount r) b (state r b))
+statesRule r = below bankLimit (λ b. stateAllowed (bankCount r) b (state r b))
 
 -- every image of bank b is accepted
 unfoldable pub allAccepted : List ℕ → ℕ → Bool
 allAccepted r b = below (imageCount r) (λ i. eqb (accepted r i b) 1)
 
 -- 13: "a 252 bank has every image accepted, a 254 bank has one that isn't, the active bank isn't 255"
-unfoldable pub bankRight : List ℕ → ℕ → Bool
-bankRight r b =
+unfoldable pub bankConsistent : List ℕ → ℕ → Bool
+bankConsistent r b =
     cond (eqb (state r b) acceptedBank) (allAccepted r b) (cond (eqb (state r b) valid) (not (allAccepted r b)) true)
 
 unfoldable pub banksRule : List ℕ → Bool
-banksRule r = below (bankCount r) (bankRight r) && not (eqb (state r (active r)) invalid)
+banksRule r = below (bankCount r) (bankConsistent r) && not (eqb (state r (active r)) invalid)
 
 -- 14: "the CRC agrees"; "over bytes 4 to size"
 unfoldable pub crcRule : List ℕ → Bool

@@ -82,9 +82,9 @@ pub fn size_rule(r: &[u8]) -> bool
     ensures { λ b. ⌜ b ≡ sizeRule (now (r .entry)) ⌝ }
 {
     let size = read32(r, 16) as usize;
+    let banks = r[32] as usize;
     let images = read16(r, 34) as usize;
-    let entry = read16(r, 36) as usize;
-    if size != HEADER + images * entry {
+    if size != HEADER + images * (32 + 24 * banks) {
         return false;
     }
     r.len() == size

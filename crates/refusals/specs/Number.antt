@@ -1,28 +1,44 @@
--- The number of each refusal that is built so far (document 01, "When the bench says no"). Assumes nothing.
+-- The number of each refusal, and what it tells beside (document 01, "When the bench says no"). Assumes nothing.
 use Prim.Native.Nat.{ℕ}
+use mathlib.Core.List.{List, [], _∷_}
 use Rattle.refusals.specs.declared.Refusal.{Refusal}
-use Rattle.refusals.specs.declared.Refusal.the-variants.{WindowEnd, DescriptorCount, DescriptorAddress, BlockOutside, TotalLength, TotalZero, NoPlace, CapsuleShort, CapsuleSizes, CapsuleFlags, CapsuleGuid, CapsuleBody, CapsulePayload, NoItem, AreaLength, NoSoundCopy, StoreSlice, BootedBank}
+use Rattle.refusals.specs.declared.Refusal.the-variants.{WindowEnd, DescriptorCount, DescriptorAddress, BlockOutside, TotalLength, TotalZero, NoPlace, CapsuleShort, CapsuleSizes, CapsuleFlags, CapsuleGuid, CapsuleBody, CapsulePayload, NoItem, AreaLength, NoSoundCopy, CopiesDiffer, StoreSlice, StagingFault, SessionState, NoImage, ImagesMissing, BootedBank}
 
 -- "1: B + N above 2^64"; "2, 3, 4, 5: 257th descriptor; descriptor address; block; total"; "6, 7: total 0; no free place"
 -- "10: capsule below 28 bytes"; "11, 12, 13: sizes; flags; GUID"; "14: body below 8 bytes, its version, count or offsets";
 -- "15, 16: a payload at fault; no item of that number"
--- "20: area not 16,384 bytes"; "21: no sound copy"; "23: store slice too short"; "28: booted bank at or past the bank count"
+-- "20: area not 16,384 bytes"; "23: store slice too short"; "21, 22: no sound copy; copies not both sound and equal, start-up and repair aside";
+-- "24: Staging whose bank isn't the update bank or isn't 255, or a set bit at or past the image count"; "25: session not among those named for
+-- the call, or Select previous whose previous bank isn't 252"; "26, 27: GUID in no entry; images missing"; "28: booted bank at or past the bank
+-- count"
+-- Each with what it tells beside the number: "27 also the count", how many images are missing
+abbrev pub told : Refusal → ℕ × List ℕ
+told WindowEnd = (1, [])
+told DescriptorCount = (2, [])
+told DescriptorAddress = (3, [])
+told BlockOutside = (4, [])
+told TotalLength = (5, [])
+told TotalZero = (6, [])
+told NoPlace = (7, [])
+told CapsuleShort = (10, [])
+told CapsuleSizes = (11, [])
+told CapsuleFlags = (12, [])
+told CapsuleGuid = (13, [])
+told CapsuleBody = (14, [])
+told CapsulePayload = (15, [])
+told NoItem = (16, [])
+told AreaLength = (20, [])
+told NoSoundCopy = (21, [])
+told CopiesDiffer = (22, [])
+told StoreSlice = (23, [])
+told StagingFault = (24, [])
+told SessionState = (25, [])
+told NoImage = (26, [])
+told (ImagesMissing n) = (27, n ∷ [])
+told BootedBank = (28, [])
+
 abbrev pub numberOf : Refusal → ℕ
-numberOf WindowEnd = 1
-numberOf DescriptorCount = 2
-numberOf DescriptorAddress = 3
-numberOf BlockOutside = 4
-numberOf TotalLength = 5
-numberOf TotalZero = 6
-numberOf NoPlace = 7
-numberOf CapsuleShort = 10
-numberOf CapsuleSizes = 11
-numberOf CapsuleFlags = 12
-numberOf CapsuleGuid = 13
-numberOf CapsuleBody = 14
-numberOf CapsulePayload = 15
-numberOf NoItem = 16
-numberOf AreaLength = 20
-numberOf NoSoundCopy = 21
-numberOf StoreSlice = 23
-numberOf BootedBank = 28
+numberOf r = told r .0
+
+abbrev pub valuesOf : Refusal → List ℕ
+valuesOf r = told r .1

@@ -35,8 +35,18 @@ pub enum Refusal {
     AreaLength,
     // No copy is sound.
     NoSoundCopy,
+    // The copies are not both sound and equal.
+    CopiesDiffer,
     // The store slice is too short.
     StoreSlice,
+    // A Staging session whose bank is not the update bank or not 255, or whose set has a bit at or past the image count.
+    StagingFault,
+    // The session is not among those named for the call, or the previous bank to be selected is not 252.
+    SessionState,
+    // No entry has that type GUID.
+    NoImage,
+    // So many images are not in the committed set.
+    ImagesMissing(u32),
     // The booted bank is at or past the bank count.
     BootedBank,
 }
@@ -63,7 +73,12 @@ impl Refusal {
             Refusal::NoItem => 16,
             Refusal::AreaLength => 20,
             Refusal::NoSoundCopy => 21,
+            Refusal::CopiesDiffer => 22,
             Refusal::StoreSlice => 23,
+            Refusal::StagingFault => 24,
+            Refusal::SessionState => 25,
+            Refusal::NoImage => 26,
+            Refusal::ImagesMissing(_) => 27,
             Refusal::BootedBank => 28,
         }
     }

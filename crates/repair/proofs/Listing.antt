@@ -13,9 +13,9 @@ use Rattle.copies.specs.Copies.{soundAndEqual}
 use Rattle.copies.specs.declared.Source.the-variants.{Copy0, Copy1}
 use Rattle.session.specs.Outcome.{acceptedWith}
 use Rattle.session.specs.declared.Session.the-variants.{Restart}
-use Rattle.stores.specs.Stores.{Store, plan, laid}
+use Rattle.stores.specs.Stores.{Store, plan, withList}
 use Rattle.stores.specs.Added.{Added, Listable}
-use Rattle.stores.proofs.Laid.{added-all, laid-none}
+use Rattle.stores.proofs.Laid.{added-all, withList-none}
 use Rattle.repair.specs.Repair.{repairStores, listed, repairedAt}
 
 pub listable : (c r : List ℕ) (base room : ℕ) → sound r ≡ true → length c ≡ 8192 → base ≤ 8192 → 4200 ≤ room → Listable c r base 0 room
@@ -42,4 +42,4 @@ into-first a s new n p = was-listed n (plan 0 (copy0 a) (recordOf (copy1 a))) s 
 
 pub nothing-to-do : (a s : List ℕ) → soundAndEqual a ≡ true → (acceptedWith Restart 0, s) ≡ repairedAt Copy0 a s
 unfolding repairedAt repairStores listed
-nothing-to-do a s e = rw (e, laid-none)
+nothing-to-do a s e = rw (e, withList-none)

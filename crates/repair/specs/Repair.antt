@@ -13,7 +13,7 @@ use Rattle.copies.specs.declared.Source.{Source}
 use Rattle.copies.specs.declared.Source.the-variants.{Copy0, Copy1, Neither}
 use Rattle.session.specs.Outcome.{Outcome, refusedWith, acceptedWith}
 use Rattle.session.specs.declared.Session.the-variants.{Restart}
-use Rattle.stores.specs.Stores.{Store, storeNumbers, plan, laid}
+use Rattle.stores.specs.Stores.{Store, storeNumbers, plan, withList}
 
 -- "none if the copies are sound and equal, else the record read goes into the other copy"
 unfoldable pub repairStores : Source → List ℕ → List Store
@@ -23,7 +23,7 @@ repairStores Neither a = []
 
 -- accepted with a list: how many pairs, and the slice with the list at its front
 unfoldable pub listed : List Store → List ℕ → Outcome × List ℕ
-listed ss s = (acceptedWith Restart (length ss), laid s ss)
+listed ss s = (acceptedWith Restart (length ss), withList s ss)
 
 -- "21: no sound copy"
 unfoldable pub repairedAt : Source → List ℕ → List ℕ → Outcome × List ℕ

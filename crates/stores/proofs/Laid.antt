@@ -11,41 +11,41 @@ use borrow.Author.Tests.{eq-eqb, ne-eqb}
 use lib.ListN.{length, take, drop, set, length-set, length-append, length-drop}
 use lib.Seq.{sets-eq, take-at, drop-at, drop-drop}
 use Rattle.fields.specs.Number.{le}
-use Rattle.stores.specs.Stores.{Store, store, shift, offsets, otherWords, differing, writes, plan, flat, laid}
+use Rattle.stores.specs.Stores.{Store, store, shift, offsets, otherWords, differing, writes, plan, numbersOf, withList}
 use Rattle.stores.specs.Added.{Added, stored}
 
-pub length-flat : (ss : List Store) → length (flat ss) ≡ 2 * length ss
-unfolding flat
-length-flat [] = refl
-length-flat (s ∷ ss) = omega (arith, length-flat ss)
+pub length-numbersOf : (ss : List Store) → length (numbersOf ss) ≡ 2 * length ss
+unfolding numbersOf
+length-numbersOf [] = refl
+length-numbersOf (s ∷ ss) = omega (arith, length-numbersOf ss)
 
-flat-snoc : (ss : List Store) (o w : ℕ) → flat (ss ++ ((o, w) ∷ [])) ≡ flat ss ++ (o ∷ w ∷ [])
-unfolding flat
-flat-snoc [] o w = refl
-flat-snoc (s ∷ ss) o w = ap {B = List ℕ} (λ l. s .0 ∷ s .1 ∷ l) (flat-snoc ss o w)
+numbersOf-snoc : (ss : List Store) (o w : ℕ) → numbersOf (ss ++ ((o, w) ∷ [])) ≡ numbersOf ss ++ (o ∷ w ∷ [])
+unfolding numbersOf
+numbersOf-snoc [] o w = refl
+numbersOf-snoc (s ∷ ss) o w = ap {B = List ℕ} (λ l. s .0 ∷ s .1 ∷ l) (numbersOf-snoc ss o w)
 
-pub laid-none : (d : List ℕ) → laid d [] ≡ d
-unfolding laid flat
-laid-none d = refl
+pub withList-none : (d : List ℕ) → withList d [] ≡ d
+unfolding withList numbersOf
+withList-none d = refl
 
-length-laid : (d : List ℕ) (ss : List Store) → 2 * length ss ≤ length d → length (laid d ss) ≡ length d
-unfolding laid
-length-laid d ss h = rw (length-append, length-flat, length-drop) (omega arith)
+length-withList : (d : List ℕ) (ss : List Store) → 2 * length ss ≤ length d → length (withList d ss) ≡ length d
+unfolding withList
+length-withList d ss h = rw (length-append, length-numbersOf, length-drop) (omega arith)
 
 -- one store more
-laid-snoc : (d : List ℕ) (ss : List Store) (o w : ℕ) → 2 * length ss + 2 ≤ length d
-    → set (set (laid d ss) (2 * length ss) o) (2 * length ss + 1) w ≡ laid d (ss ++ ((o, w) ∷ []))
-unfolding laid
-laid-snoc d ss o w h =
+withList-snoc : (d : List ℕ) (ss : List Store) (o w : ℕ) → 2 * length ss + 2 ≤ length d
+    → set (set (withList d ss) (2 * length ss) o) (2 * length ss + 1) w ≡ withList d (ss ++ ((o, w) ∷ []))
+unfolding withList
+withList-snoc d ss o w h =
     let k : 2 * length ss ≤ length d = omega arith in
-    let e : length (flat ss) ≡ 2 * length ss = length-flat ss in
-    ap (λ (k : ℕ). set (set (laid d ss) (2 * length ss) o) k w) (add-one (2 * length ss))
-    ∙ sets-eq (o ∷ w ∷ []) (laid d ss) (2 * length ss) (rw (length-laid d ss) (omega arith))
-    ∙ ap (λ (l : List ℕ). l ++ (o ∷ w ∷ []) ++ drop (2 * length ss + 2) (laid d ss)) (take-at (flat ss) (drop (2 * length ss) d) (2 * length ss) e)
-    ∙ ap (λ (l : List ℕ). flat ss ++ (o ∷ w ∷ []) ++ l)
-    (sym (drop-drop 2 (2 * length ss) (laid d ss)) ∙ ap (drop 2) (drop-at (flat ss) (drop (2 * length ss) d) (2 * length ss) e) ∙ drop-drop 2 (2 * length ss) d)
-    ∙ ap (λ (l : List ℕ). l ++ drop (2 * length ss + 2) d) (sym (flat-snoc ss o w))
-    ∙ ap (λ (j : ℕ). flat (ss ++ ((o, w) ∷ [])) ++ drop j d)
+    let e : length (numbersOf ss) ≡ 2 * length ss = length-numbersOf ss in
+    ap (λ (k : ℕ). set (set (withList d ss) (2 * length ss) o) k w) (add-one (2 * length ss))
+    ∙ sets-eq (o ∷ w ∷ []) (withList d ss) (2 * length ss) (rw (length-withList d ss) (omega arith))
+    ∙ ap (λ (l : List ℕ). l ++ (o ∷ w ∷ []) ++ drop (2 * length ss + 2) (withList d ss)) (take-at (numbersOf ss) (drop (2 * length ss) d) (2 * length ss) e)
+    ∙ ap (λ (l : List ℕ). numbersOf ss ++ (o ∷ w ∷ []) ++ l)
+    (sym (drop-drop 2 (2 * length ss) (withList d ss)) ∙ ap (drop 2) (drop-at (numbersOf ss) (drop (2 * length ss) d) (2 * length ss) e) ∙ drop-drop 2 (2 * length ss) d)
+    ∙ ap (λ (l : List ℕ). l ++ drop (2 * length ss + 2) d) (sym (numbersOf-snoc ss o w))
+    ∙ ap (λ (j : ℕ). numbersOf (ss ++ ((o, w) ∷ [])) ++ drop j d)
     (let z : 2 * length ss + 2 ≡ 2 * length (ss ++ ((o, w) ∷ [])) = rw length-append (omega arith) in z)
 
 pub added-none : (k : ℕ) (out : List ℕ) → Added k k [] out out
@@ -60,8 +60,8 @@ added-one k out new o w h q =
       adds = λ d ss n l e.
           q
           ∙ ap (λ (z : List ℕ). set (set z (2 * k) o) (2 * k + 1) w) e
-          ∙ ap (λ (j : ℕ). set (set (laid d ss) (2 * j) o) (2 * j + 1) w) (sym n)
-          ∙ laid-snoc d ss o w (omega arith);
+          ∙ ap (λ (j : ℕ). set (set (withList d ss) (2 * j) o) (2 * j + 1) w) (sym n)
+          ∙ withList-snoc d ss o w (omega arith);
     }
 
 pub added-then : (k m n : ℕ) (ts us : List Store) (a b c : List ℕ) → Added k m ts a b → Added m n us b c → Added k n (ts ++ us) a c
@@ -71,12 +71,12 @@ added-then k m n ts us a b c p q =
       kept = q .kept ∙ p .kept;
       adds = λ d ss z l e.
           q .adds d (ss ++ ts) (length-append ss ts ∙ omega (arith, p .count)) (l ∙ sym (p .kept)) (p .adds d ss z l e)
-          ∙ ap (laid d) (append-assoc ss ts us);
+          ∙ ap (withList d) (append-assoc ss ts us);
     }
 
 -- from the slice's front on
-pub added-all : (n : ℕ) (ts : List Store) (out new : List ℕ) → Added 0 n ts out new → (n ≡ length ts) × (new ≡ laid out ts)
-added-all n ts out new p = (omega (arith, p .count), p .adds out [] refl refl (sym (laid-none out)))
+pub added-all : (n : ℕ) (ts : List Store) (out new : List ℕ) → Added 0 n ts out new → (n ≡ length ts) × (new ≡ withList out ts)
+added-all n ts out new p = (omega (arith, p .count), p .adds out [] refl refl (sym (withList-none out)))
 
 -- the offsets at which a copy differs
 module _ (c r : List ℕ) where

@@ -3,13 +3,13 @@ use Prim.Native.Nat.{ℕ, _+_, _*_, _/_, _≤_}
 use mathlib.Core.List.{List, _++_, map}
 use mathlib.Core.Path.{_≡_}
 use lib.ListN.{length}
-use Rattle.stores.specs.Stores.{Store, store, shift, differing, laid}
+use Rattle.stores.specs.Stores.{Store, store, shift, differing, withList}
 
 -- the slice held k stores at its front and holds n now: the same, and then ts
 pub record Added (k n : ℕ) (ts : List Store) (out new : List ℕ) : Type 0 where
   pub count : n ≡ k + length ts
   pub kept : length new ≡ length out
-  pub adds : (d : List ℕ) (ss : List Store) → length ss ≡ k → length d ≡ length out → out ≡ laid d ss → new ≡ laid d (ss ++ ts)
+  pub adds : (d : List ℕ) (ss : List Store) → length ss ≡ k → length d ≡ length out → out ≡ withList d ss → new ≡ withList d (ss ++ ts)
 
 -- the stores at those of the offsets at which the copy differs
 abbrev pub stored : ℕ → List ℕ → List ℕ → List ℕ → List Store

@@ -6,6 +6,7 @@ use mathlib.Core.List.{List, [], _∷_, _++_, map}
 use lib.Dec.{eqb}
 use lib.ListN.{length, drop}
 use Rattle.fields.specs.Number.{le}
+use Rattle.record.specs.Layout.{versionAt}
 
 -- "a list of stores, each a pair (offset, word)"
 abbrev pub Store : Type 0
@@ -28,10 +29,6 @@ unfoldable pub offsets : ℕ → ℕ → List ℕ
 offsets o zero = []
 offsets o (suc n) = o ∷ offsets (o + 4) n
 
--- where the version stands in a record
-abbrev pub versionAt : ℕ
-versionAt = 4
-
 -- every word of the record but its version
 unfoldable pub otherWords : List ℕ → List ℕ
 otherWords r = 0 ∷ offsets 8 (length r / 4 - 2)
@@ -50,10 +47,10 @@ unfoldable pub plan : ℕ → List ℕ → List ℕ → List Store
 plan base c r = map (shift base) (writes r (differing c r (otherWords r)))
 
 -- a list of stores as numbers: offset, word, offset, word
-unfoldable pub flat : List Store → List ℕ
-flat [] = []
-flat (s ∷ ss) = s .0 ∷ s .1 ∷ flat ss
+unfoldable pub numbersOf : List Store → List ℕ
+numbersOf [] = []
+numbersOf (s ∷ ss) = s .0 ∷ s .1 ∷ numbersOf ss
 
 -- a slice of numbers with the list at its front; "Numbers past the list stay."
-unfoldable pub laid : List ℕ → List Store → List ℕ
-laid d ss = flat ss ++ drop (2 * length ss) d
+unfoldable pub withList : List ℕ → List Store → List ℕ
+withList d ss = numbersOf ss ++ drop (2 * length ss) d

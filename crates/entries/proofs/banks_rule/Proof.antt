@@ -15,29 +15,29 @@ use Rattle.record.specs.Sized.{Sized, bankWords}
 use Rattle.record.proofs.Sizes.{bank-in, guid-in, header-in}
 use Rattle.fields.specs.Number.{le}
 use Rattle.record.specs.Layout.{bankCount}
-use Rattle.record.specs.Rules.{bankRight, banksRule}
+use Rattle.record.specs.Rules.{bankConsistent, banksRule}
 use Rattle.entries.proofs.banks_rule.Statement.{statement}
 use Rattle.entries.proofs.banks_rule.Tie as tie
 
 abbrev Inv-loop : tie.InvT-loop
-Inv-loop r banks images active b₀ b = (b ≤ banks) × (below b (bankRight r) ≡ true)
+Inv-loop r banks images active b₀ b = (b ≤ banks) × (below b (bankConsistent r) ≡ true)
 
 abbrev μ-loop : tie.MeasureT-loop
 μ-loop r banks images active b₀ b = banks - b
 
 loop-holds : tie.Need-loop-holds Inv-loop μ-loop
-loop-holds c = (omega arith, below-none (bankRight (c .before .args .r .now)))
+loop-holds c = (omega arith, below-none (bankConsistent (c .before .args .r .now)))
 
-bank-right-requires : tie.Need-bank-right-requires Inv-loop μ-loop
-bank-right-requires c κs = (c .before .before .before .pre .0, c .loop-test .taken)
+bank-consistent-requires : tie.Need-bank-consistent-requires Inv-loop μ-loop
+bank-consistent-requires c κs = (c .before .before .before .pre .0, c .loop-test .taken)
 
 returns : tie.Need-returns Inv-loop μ-loop
 unfolding banksRule
 returns c =
     let l = c .before .before .before in
     let s = l .before .before in
-    rw (below-stop (bankRight (s .args .r .now)) (bankCount (s .args .r .now)) (l .loop .b) (rw (s .pre .0 .banks-is) (c .before .before .loop-test .taken))
-    (sym (c .before .bank-right .ensures) ∙ not-true _ (c .if1 .taken)))
+    rw (below-stop (bankConsistent (s .args .r .now)) (bankCount (s .args .r .now)) (l .loop .b) (rw (s .pre .0 .banks-is) (c .before .before .loop-test .taken))
+    (sym (c .before .bank-consistent .ensures) ∙ not-true _ (c .if1 .taken)))
 
 add-b : tie.Need-add-b Inv-loop μ-loop
 add-b c = search needs
@@ -48,7 +48,7 @@ loop-less c = search needs
 loop-again : tie.Need-loop-again Inv-loop μ-loop
 loop-again c =
     let l = c .before .before .before in
-    (omega arith, below-more (bankRight (l .before .before .args .r .now)) (l .loop .b) (l .loop .inv .1) (sym (c .before .bank-right .ensures) ∙ not-false _ (c .if1 .left)))
+    (omega arith, below-more (bankConsistent (l .before .before .args .r .now)) (l .loop .b) (l .loop .inv .1) (sym (c .before .bank-consistent .ensures) ∙ not-false _ (c .if1 .left)))
 
 add-result : tie.Need-add-result Inv-loop μ-loop
 add-result c =
@@ -66,7 +66,7 @@ returns-2 c =
     let l = c .before .before in
     let s = l .before .before in
     let e : l .loop .b ≡ bankCount (s .args .r .now) = rw (s .pre .0 .banks-is) (omega arith) in
-    let h : below (bankCount (s .args .r .now)) (bankRight (s .args .r .now)) ≡ true = rw e at (l .loop .inv .1) in
+    let h : below (bankCount (s .args .r .now)) (bankConsistent (s .args .r .now)) ≡ true = rw e at (l .loop .inv .1) in
     rw (h, ← s .pre .2)
 
 pub banks-rule-spec : {M : Type 1} → statement M
@@ -76,7 +76,7 @@ banks-rule-spec =
     Inv-loop
     μ-loop
     loop-holds
-    bank-right-requires
+    bank-consistent-requires
     returns
     add-b
     loop-less

@@ -14,12 +14,12 @@ use Rattle.record.specs.Sized.{Sized, bankWords}
 use Rattle.record.proofs.Sizes.{bank-in, guid-in, header-in}
 use Rattle.fields.specs.Number.{le}
 use Rattle.record.specs.Layout.{state, bankCount}
-use Rattle.record.specs.Rules.{stateRight, statesRule}
+use Rattle.record.specs.Rules.{stateAllowed, statesRule}
 use Rattle.entries.proofs.states_rule.Statement.{statement}
 use Rattle.entries.proofs.states_rule.Tie as tie
 
 abbrev test : List ℕ → ℕ → Bool
-test r b = stateRight (bankCount r) b (state r b)
+test r b = stateAllowed (bankCount r) b (state r b)
 
 abbrev Inv-loop : tie.InvT-loop
 Inv-loop r banks images b₀ b = (b ≤ 4) × (below b (test r) ≡ true)
@@ -30,21 +30,21 @@ abbrev μ-loop : tie.MeasureT-loop
 loop-holds : tie.Need-loop-holds Inv-loop μ-loop
 loop-holds c = (omega arith, below-none (test (c .before .args .r .now)))
 
-add-state-right : tie.Need-add-state-right Inv-loop μ-loop
-add-state-right c = omega arith
+add-state-allowed : tie.Need-add-state-allowed Inv-loop μ-loop
+add-state-allowed c = omega arith
 
-shared-slice-read-state-right : tie.Need-shared-slice-read-state-right Inv-loop μ-loop
-shared-slice-read-state-right c =
+shared-slice-read-state-allowed : tie.Need-shared-slice-read-state-allowed Inv-loop μ-loop
+shared-slice-read-state-allowed c =
     let s = c .before .before .before .before in
     omega (arith, header-in (s .args .r .now) (s .args .banks) (s .args .images) (s .pre))
 
-state-right-requires : tie.Need-state-right-requires Inv-loop μ-loop
-state-right-requires c κs = search needs
+state-allowed-requires : tie.Need-state-allowed-requires Inv-loop μ-loop
+state-allowed-requires c κs = search needs
 
 -- what the test of a state answered
-tested : (c : tie.After-state-right Inv-loop μ-loop)
-    → let l = c .before .before .before in c .state-right .result ≡ test (l .before .before .args .r .now) (l .loop .b)
-tested c = let s = c .before .before .before .before .before in rw (s .pre .banks-is) (c .state-right .ensures)
+tested : (c : tie.After-state-allowed Inv-loop μ-loop)
+    → let l = c .before .before .before in c .state-allowed .result ≡ test (l .before .before .args .r .now) (l .loop .b)
+tested c = let s = c .before .before .before .before .before in rw (s .pre .banks-is) (c .state-allowed .ensures)
 
 returns : tie.Need-returns Inv-loop μ-loop
 unfolding statesRule
@@ -77,9 +77,9 @@ states-rule-spec =
     Inv-loop
     μ-loop
     loop-holds
-    add-state-right
-    shared-slice-read-state-right
-    state-right-requires
+    add-state-allowed
+    shared-slice-read-state-allowed
+    state-allowed-requires
     returns
     add-b
     loop-less

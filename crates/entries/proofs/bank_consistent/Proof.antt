@@ -1,13 +1,13 @@
--- `bank_right` meets its contract. Assumes nothing.
+-- `bank_consistent` meets its contract. Assumes nothing.
 use mathlib.Core.Path.{_≡_, refl, sym, ap, _∙_}
 use native.Mathlib.Omega.{arith}
 use borrow.Author.Tests.{le-leb, lt-leb, le-ltb, lt-ltb, eq-eqb, ne-eqb}
 use borrow.Author.Needs.{needs}
-use Rattle.record.specs.Rules.{bankRight}
+use Rattle.record.specs.Rules.{bankConsistent}
 use Rattle.record.specs.Sized.{Sized, bankWords}
 use Rattle.record.proofs.Sizes.{bank-in, guid-in, header-in}
-use Rattle.entries.proofs.bank_right.Statement.{statement}
-use Rattle.entries.proofs.bank_right.Tie as tie
+use Rattle.entries.proofs.bank_consistent.Statement.{statement}
+use Rattle.entries.proofs.bank_consistent.Tie as tie
 
 add-s : tie.Need-add-s
 add-s c = search needs
@@ -21,22 +21,22 @@ all-accepted-requires : tie.Need-all-accepted-requires
 all-accepted-requires c κs = search needs
 
 returns : tie.Need-returns
-unfolding bankRight
+unfolding bankConsistent
 returns c = rw (eq-eqb _ _ (c .before .if1 .taken)) (c .all-accepted .ensures)
 
 all-accepted-requires-2 : tie.Need-all-accepted-requires-2
 all-accepted-requires-2 c κs = search needs
 
 returns-2 : tie.Need-returns-2
-unfolding bankRight
+unfolding bankConsistent
 returns-2 c = rw (ne-eqb _ _ (c .before .before .if1 .left), eq-eqb _ _ (c .before .if2 .taken), c .all-accepted2 .ensures)
 
 returns-3 : tie.Need-returns-3
-unfolding bankRight
+unfolding bankConsistent
 returns-3 c = rw (ne-eqb _ _ (c .before .if1 .left), ne-eqb _ _ (c .if2 .left))
 
-pub bank-right-spec : {M : Type 1} → statement M
-bank-right-spec =
+pub bank-consistent-spec : {M : Type 1} → statement M
+bank-consistent-spec =
     tie.close
     (tie.spec
     add-s

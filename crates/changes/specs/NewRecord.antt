@@ -1,0 +1,70 @@
+-- The record that each call makes (document 01, "Session and calls"; "Power cuts": "The new one is the old with what the call's line above
+-- alters, its CRC worked anew."). r is the bytes of the old record. Assumes nothing.
+use Prim.Native.Nat.{ℕ, zero, suc}
+use mathlib.Core.Bool.{cond}
+use mathlib.Core.List.{List, [], _∷_}
+use lib.Dec.{eqb}
+use lib.ListN.{drop}
+use Rattle.fields.specs.Number.{bytes, put}
+use Rattle.fields.specs.Guid.{same}
+use Rattle.crc.specs.Crc.{crc32Of}
+use Rattle.record.specs.Layout.{crcAt, versionAt, activeAt, previousAt, stateAt, acceptedAt, active, previous, bankCount, imageCount, typeGuid, updateBank}
+use Rattle.record.specs.Every.{least}
+use Rattle.record.specs.Rules.{invalid, valid, acceptedBank, allAccepted}
+
+-- one field anew, every other byte as it was
+unfoldable pub setActive : ℕ → List ℕ → List ℕ
+setActive b r = put r activeAt (bytes 4 b)
+
+unfoldable pub setPrevious : ℕ → List ℕ → List ℕ
+setPrevious b r = put r previousAt (bytes 4 b)
+
+unfoldable pub setState : (b s : ℕ) → List ℕ → List ℕ
+setState b s r = put r (stateAt b) (s ∷ [])
+
+unfoldable pub setAccepted : (i b flag : ℕ) → List ℕ → List ℕ
+setAccepted i b flag r = put r (acceptedAt (bankCount r) i b) (bytes 4 flag)
+
+-- "its CRC worked anew"; "over bytes 4 to size"
+unfoldable pub withCrc : List ℕ → List ℕ
+withCrc r = put r crcAt (bytes 4 (crc32Of (drop versionAt r)))
+
+-- "the update bank is (active + 1) mod banks"
+abbrev pub updateBankOf : List ℕ → ℕ
+updateBankOf r = updateBank (bankCount r) (active r)
+
+-- the image with that type GUID, or the image count where no entry has it
+unfoldable pub imageWith : (g r : List ℕ) → ℕ
+imageWith g r = least (imageCount r) (λ i. same (typeGuid r i) g)
+
+-- images 0 to n - 1 of bank b unaccepted
+unfoldable pub firstUnaccepted : (n b : ℕ) → List ℕ → List ℕ
+firstUnaccepted zero b r = r
+firstUnaccepted (suc n) b r = setAccepted n b 0 (firstUnaccepted n b r)
+
+-- Begin: "It becomes 255 with all images unaccepted"
+unfoldable pub begunRecord : List ℕ → List ℕ
+begunRecord r = withCrc (firstUnaccepted (imageCount r) (updateBankOf r) (setState (updateBankOf r) invalid r))
+
+-- Commit of image i: "0 marks it accepted, above 0 unaccepted", in the bank that is being staged, which is the update bank
+unfoldable pub committedRecord : (i request : ℕ) → List ℕ → List ℕ
+committedRecord i request r = withCrc (setAccepted i (updateBankOf r) (cond (eqb request 0) 1 0) r)
+
+-- End: "The bank becomes 252 if all are accepted, else 254. Previous takes active, active takes the update bank"
+unfoldable pub endedRecord : List ℕ → List ℕ
+endedRecord r =
+    withCrc
+    (setActive (updateBankOf r)
+    (setPrevious (active r) (setState (updateBankOf r) (cond (allAccepted r (updateBankOf r)) acceptedBank valid) r)))
+
+-- Accept of image i: "the image becomes accepted in the active bank"
+unfoldable pub marked : ℕ → List ℕ → List ℕ
+marked i r = setAccepted i (active r) 1 r
+
+-- "when all are, the bank is 252"
+unfoldable pub acceptedRecord : ℕ → List ℕ → List ℕ
+acceptedRecord i r = withCrc (cond (allAccepted (marked i r) (active r)) (setState (active r) acceptedBank (marked i r)) (marked i r))
+
+-- Select previous: "Active and previous are exchanged."
+unfoldable pub exchangedRecord : List ℕ → List ℕ
+exchangedRecord r = withCrc (setActive (previous r) (setPrevious (active r) r))
