@@ -2,32 +2,13 @@
 -- alters, its CRC worked anew."). r is the bytes of the old record. Assumes nothing.
 use Prim.Native.Nat.{ℕ, zero, suc}
 use mathlib.Core.Bool.{cond}
-use mathlib.Core.List.{List, [], _∷_}
+use mathlib.Core.List.{List}
 use lib.Dec.{eqb}
-use lib.ListN.{drop}
-use Rattle.fields.specs.Number.{bytes, put}
 use Rattle.fields.specs.Guid.{same}
-use Rattle.crc.specs.Crc.{crc32Of}
-use Rattle.record.specs.Layout.{crcAt, versionAt, activeAt, previousAt, stateAt, acceptedAt, active, previous, bankCount, imageCount, typeGuid, updateBank}
+use Rattle.record.specs.Layout.{active, previous, bankCount, imageCount, typeGuid, updateBank}
 use Rattle.record.specs.Every.{least}
+use Rattle.alterations.specs.Fields.{setActive, setPrevious, setState, setAccepted, withCrc}
 use Rattle.record.specs.Rules.{invalid, valid, acceptedBank, allAccepted}
-
--- one field anew, every other byte as it was
-unfoldable pub setActive : ℕ → List ℕ → List ℕ
-setActive b r = put r activeAt (bytes 4 b)
-
-unfoldable pub setPrevious : ℕ → List ℕ → List ℕ
-setPrevious b r = put r previousAt (bytes 4 b)
-
-unfoldable pub setState : (b s : ℕ) → List ℕ → List ℕ
-setState b s r = put r (stateAt b) (s ∷ [])
-
-unfoldable pub setAccepted : (i b flag : ℕ) → List ℕ → List ℕ
-setAccepted i b flag r = put r (acceptedAt (bankCount r) i b) (bytes 4 flag)
-
--- "its CRC worked anew"; "over bytes 4 to size"
-unfoldable pub withCrc : List ℕ → List ℕ
-withCrc r = put r crcAt (bytes 4 (crc32Of (drop versionAt r)))
 
 -- "the update bank is (active + 1) mod banks"
 abbrev pub updateBankOf : List ℕ → ℕ

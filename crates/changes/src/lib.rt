@@ -1,1 +1,1 @@
-// The record that each call makes of the old one (document 01, "Session and calls"), and the stores that put it into both copies.
+// What each call alters in the record (document 01, "Session and calls"), and the list of its stores.

@@ -15,7 +15,7 @@ use Rattle.copies.specs.declared.Source.the-variants.{Copy0, Copy1, Neither}
 use Rattle.copies.proofs.Reading.{from-copy0, from-copy1}
 use Rattle.stores.specs.Stores.{Store, store, shift, storeNumbers, otherWords, differing, writes, plan}
 use Rattle.power_cuts.specs.Version2.{otherStores, repairStores}
-use Rattle.changes.specs.ChangeStores.{copyStores, changeStores}
+use Rattle.alterations.specs.ChangeStores.{copyStores, changeStores}
 use Rattle.power_cuts.specs.Offsets.{Placed, Each, InEither, StoreRules}
 use Rattle.power_cuts.proofs.Plan.{offsets-high, offsets-aligned, length-offsets, differing-mem, length-differing}
 use Rattle.power_cuts.proofs.Version2.{in-words, record-high}

@@ -36,7 +36,7 @@ use Rattle.power_cuts.specs.Theorem.{PowerCuts, Event}
 use Rattle.power_cuts.specs.Theorem as general
 use Rattle.repair.specs.Repair as entry
 use Rattle.power_cuts.specs.Version2.{recordLength, version2, planned, otherStores, repairStores, Reads, left, cut, Lasts2, Survives2, Demand3}
-use Rattle.changes.specs.ChangeStores.{copyStores, changeStores}
+use Rattle.alterations.specs.ChangeStores.{copyStores, changeStores}
 use Rattle.power_cuts.proofs.Plan.{plan-writes}
 use Rattle.power_cuts.proofs.Theorem.{power-cuts}
 

@@ -11,7 +11,7 @@ use Rattle.record.specs.Rules.{sound}
 use Rattle.copies.specs.Copies.{sourceOf, readFrom}
 use Rattle.stores.specs.Stores.{Store, storeNumbers, plan}
 use Rattle.power_cuts.specs.Version2.{repairStores}
-use Rattle.changes.specs.ChangeStores.{changeStores}
+use Rattle.alterations.specs.ChangeStores.{changeStores}
 
 -- "offsets are multiples of 4 inside" the range of a record of n bytes in the copy at base
 pub record Placed (base n : ℕ) (s : Store) : Type 0 where

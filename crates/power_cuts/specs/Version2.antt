@@ -15,7 +15,7 @@ use Rattle.copies.specs.declared.Source.{Source}
 use Rattle.copies.specs.declared.Source.the-variants.{Copy0, Copy1, Neither}
 use Rattle.start_up.specs.StartUp.{startUp, startedFrom}
 use Rattle.repair.specs.Repair as entry
-use Rattle.changes.specs.ChangeStores.{changeStores}
+use Rattle.alterations.specs.ChangeStores.{changeStores}
 use Rattle.stores.specs.Stores.{Store, storeNumbers, otherWords, differing, writes, plan}
 use Rattle.power_cuts.specs.Area.{Bytes, afterStores, afterCut}
 use Rattle.power_cuts.specs.Format.{Format, Writer, over}

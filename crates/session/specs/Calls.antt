@@ -15,7 +15,7 @@ use Rattle.record.specs.Rules.{invalid, acceptedBank, allAccepted, soundCopy}
 use Rattle.copies.specs.Copies.{soundAndEqual}
 use Rattle.stores.specs.Stores.{storeNumbers, withList}
 use Rattle.changes.specs.NewRecord.{updateBankOf, imageWith, marked, begunRecord, committedRecord, endedRecord, acceptedRecord, exchangedRecord}
-use Rattle.changes.specs.ChangeStores.{changeStores}
+use Rattle.alterations.specs.ChangeStores.{changeStores}
 use Rattle.session.specs.declared.Session.{Session}
 use Rattle.session.specs.declared.Session.the-variants.{Regular, Staging, Trial, Fallback, Restart}
 use Rattle.session.specs.Outcome.{Decision, accepted, refusal, refused, Outcome, refusedWith, acceptedWith}
