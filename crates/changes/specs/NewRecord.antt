@@ -27,7 +27,8 @@ firstUnaccepted (suc n) b r = setAccepted n b 0 (firstUnaccepted n b r)
 unfoldable pub begunRecord : List ℕ → List ℕ
 begunRecord r = withCrc (firstUnaccepted (imageCount r) (updateBankOf r) (setState (updateBankOf r) invalid r))
 
--- Commit of image i: "0 marks it accepted, above 0 unaccepted", in the bank that is being staged, which is the update bank
+-- Commit of image i: "0 marks it accepted, above 0 unaccepted", in the bank that is being staged, which is the update bank.
+-- "A repeat: the later stands."
 unfoldable pub committedRecord : (i request : ℕ) → List ℕ → List ℕ
 committedRecord i request r = withCrc (setAccepted i (updateBankOf r) (cond (eqb request 0) 1 0) r)
 
@@ -38,7 +39,8 @@ endedRecord r =
     (setActive (updateBankOf r)
     (setPrevious (active r) (setState (updateBankOf r) (cond (allAccepted r (updateBankOf r)) acceptedBank valid) r)))
 
--- Accept of image i: "the image becomes accepted in the active bank"
+-- Accept of image i: "the image becomes accepted in the active bank". "Accepting an accepted image changes nothing in the record" is a
+-- consequence for a sound record, by rules 13 and 14
 unfoldable pub marked : ℕ → List ℕ → List ℕ
 marked i r = setAccepted i (active r) 1 r
 

@@ -2,7 +2,7 @@
 -- bytes of the area, s the numbers of the store slice, g the bytes of a type GUID. A call's result is its answer and the store slice at exit.
 -- Assumes nothing.
 use Prim.Native.Nat.{ℕ, _-_, _^_}
-use mathlib.Core.Bool.{Bool, true, cond, _&&_, _||_}
+use mathlib.Core.Bool.{Bool, true, cond, not, _&&_, _||_}
 use mathlib.Core.List.{List}
 use lib.Bits.{bitOr}
 use lib.Count.{onesIn}
@@ -23,19 +23,23 @@ use Rattle.session.specs.Outcome.{Decision, accepted, refusal, refused, 
 abbrev pub Result : Type 0
 Result = Outcome × List ℕ
 
--- "all other calls need two equal ones": the record that both copies hold
+-- "all other calls need two equal ones": the record that both copies hold. Read once a call is admitted, so that it is that of copy 0 and of
+-- copy 1
 abbrev pub held : List ℕ → List ℕ
 held a = recordOf (copy0 a)
 
--- "A refusal gives the number .., the session as it was .., no .. list, .. and no byte altered."
-unfoldable pub refusedCall : Session → Refusal → (s : List ℕ) → Result
-refusedCall q why s = (refusedWith q why, s)
+-- "A refusal gives the number (..; 27 also the count), the session as it was .., no .. list, .. and no byte altered."
+unfoldable pub refusedBy : Session → Decision → (s : List ℕ) → Result
+refusedBy q why s = ((q, why, 0), s)
+
+abbrev pub refusedCall : Session → Refusal → (s : List ℕ) → Result
+refusedCall q why s = refusedBy q (refused why) s
 
 -- "An accepted call answers the next session and a list of stores": those that put the new record into both copies
 unfoldable pub changedTo : (next : Session) (a new s : List ℕ) → Result
 changedTo next a new s = (acceptedWith next (length (changeStores a new)), withList s (changeStores a new))
 
--- 24: "Staging whose bank isn't the update bank or isn't 255, or a set bit at or past the image count", of any session given to any call
+-- not 24, "Staging whose bank isn't the update bank or isn't 255, or a set bit at or past the image count": of any session, given to any call
 unfoldable pub stagingFits : Session → (r : List ℕ) → Bool
 stagingFits (Staging bank set) r = eqb bank (updateBankOf r) && (eqb (state r bank) invalid && ltb set (2 ^ imageCount r))
 stagingFits Regular r = true
@@ -43,25 +47,24 @@ stagingFits Trial r = true
 stagingFits Fallback r = true
 stagingFits Restart r = true
 
--- "with areas 20, 23, 21, 22, then 24": what is tested before a call looks at its own line
-unfoldable pub admission : Session → (a : List ℕ) (numbers : ℕ) → Decision
-admission q a numbers =
-    cond (eqb (length a) areaSize)
-    (cond (leb storeNumbers numbers)
-    (cond (soundCopy (copy0 a) || soundCopy (copy1 a))
-    (cond (soundAndEqual a) (cond (stagingFits q (held a)) accepted (refused StagingFault)) (refused CopiesDiffer))
-    (refused NoSoundCopy))
-    (refused StoreSlice))
-    (refused AreaLength)
+-- What is tested before a call looks at its own line. "Order: .. with areas 20, 23, 21, 22, then 24 to 28, each where it applies."
+unfoldable pub admission : Session → (a : List ℕ) (sliceLength : ℕ) → Decision
+admission q a sliceLength =
+    cond (not (eqb (length a) areaSize)) (refused AreaLength)
+    (cond (ltb sliceLength storeNumbers) (refused StoreSlice)
+    (cond (not (soundCopy (copy0 a) || soundCopy (copy1 a))) (refused NoSoundCopy)
+    (cond (not (soundAndEqual a)) (refused CopiesDiffer)
+    (cond (not (stagingFits q (held a))) (refused StagingFault) accepted))))
 
 -- a call that is admitted goes on with its own line
-unfoldable pub afterAdmission : Decision → Session → (s : List ℕ) → (own : Result) → Result
-afterAdmission accepted q s own = own
-afterAdmission (refusal number values) q s own = ((q, refusal number values, 0), s)
+unfoldable pub ifAdmitted : Decision → Session → (s : List ℕ) → (ownLine : Result) → Result
+ifAdmitted accepted q s ownLine = ownLine
+ifAdmitted (refusal number values) q s ownLine = refusedBy q (refusal number values) s
 
-unfoldable pub called : Session → (a s : List ℕ) → (own : Result) → Result
-called q a s own = afterAdmission (admission q a (length s)) q s own
+unfoldable pub called : Session → (a s : List ℕ) → (ownLine : Result) → Result
+called q a s ownLine = ifAdmitted (admission q a (length s)) q s ownLine
 
+-- 25, here and in each line below: "session not among those named for the call"
 -- "Begin (Regular, Staging): .. the set is empty."
 unfoldable pub beginLine : Session → (a s : List ℕ) → Result
 beginLine Regular a s = changedTo (Staging (updateBankOf (held a)) 0) a (begunRecord (held a)) s
@@ -73,7 +76,7 @@ beginLine Restart a s = refusedCall Restart SessionState s
 unfoldable pub beginCall : Session → (a s : List ℕ) → Result
 beginCall q a s = called q a s (beginLine q a s)
 
--- "26: GUID in no entry"
+-- 26: "GUID in no entry"
 unfoldable pub ofImage : Session → (g a s : List ℕ) → (own : ℕ → Result) → Result
 ofImage q g a s own = cond (ltb (imageWith g (held a)) (imageCount (held a))) (own (imageWith g (held a))) (refusedCall q NoImage s)
 
@@ -93,11 +96,16 @@ commitLine Restart g request a s = refusedCall Restart SessionState s
 unfoldable pub commitCall : Session → (g : List ℕ) (request : ℕ) (a s : List ℕ) → Result
 commitCall q g request a s = called q a s (commitLine q g request a s)
 
--- "a refusal tells how many are missing": the image count less the set's count of ones, in its 32 bits
-unfoldable pub missing : (set : ℕ) (r : List ℕ) → ℕ
-missing set r = imageCount r - onesIn 32 set
+-- "a 32-bit set of committed images"
+abbrev pub setBits : ℕ
+setBits = 32
 
--- "End (Staging): every image must be in the set; .. Restart."; "27: images missing"
+-- "a refusal tells how many are missing": the image count less the set's count of ones
+unfoldable pub missing : (set : ℕ) (r : List ℕ) → ℕ
+missing set r = imageCount r - onesIn setBits set
+
+-- "End (Staging): every image must be in the set; .. Restart."; 27: "images missing". The count is 0 exactly if every image is in the set, since
+-- 24 has shut out bits at or past the image count
 unfoldable pub endLine : Session → (a s : List ℕ) → Result
 endLine (Staging bank set) a s =
     cond (eqb (missing set (held a)) 0)
@@ -122,7 +130,8 @@ cancelLine Restart a s = refusedCall Restart SessionState s
 unfoldable pub cancelCall : Session → (a s : List ℕ) → Result
 cancelCall q a s = called q a s (cancelLine q a s)
 
--- "the next session is still Regular if all are accepted, else Trial"
+-- "when all are, .. the session Regular"; and where the image was accepted already, "the next session is still Regular if all are accepted, else
+-- Trial"
 unfoldable pub afterAccept : ℕ → (r : List ℕ) → Session
 afterAccept i r = cond (allAccepted (marked i r) (active r)) Regular Trial
 
@@ -137,7 +146,7 @@ acceptLine Restart g a s = refusedCall Restart SessionState s
 unfoldable pub acceptCall : Session → (g a s : List ℕ) → Result
 acceptCall q g a s = called q a s (acceptLine q g a s)
 
--- "the previous bank must be 252. .. Restart."; "25: .. Select previous whose previous bank isn't 252"
+-- "the previous bank must be 252. .. Restart."; 25: "or Select previous whose previous bank isn't 252"
 unfoldable pub selected : Session → (a s : List ℕ) → Result
 selected q a s =
     cond (eqb (state (held a) (previous (held a))) acceptedBank) (changedTo Restart a (exchangedRecord (held a)) s) (refusedCall q SessionState s)
