@@ -2,7 +2,7 @@
 use Prim.Native.Nat.{ℕ}
 use mathlib.Core.List.{List}
 use lib.ListN.{length}
-use Rattle.capsule_check.specs.Body.{part}
+use Rattle.capsule_rules.specs.Body.{part}
 use Rattle.capsule.specs.Parts.{Range}
 
 abbrev pub lengthIn : List ℕ → Range → ℕ

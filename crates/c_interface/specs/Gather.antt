@@ -22,5 +22,5 @@ totalOr old (place a t) = t
 pub record Exported (outcome : Answer × List ℕ) (address₀ total₀ r : ℕ) (w : List ℕ) (address total : ℕ) : Type 0 where
   pub answered : r ≡ number (outcome .0)
   pub window : w ≡ outcome .1
-  pub address-set : address ≡ addressOr address₀ (outcome .0)
-  pub total-set : total ≡ totalOr total₀ (outcome .0)
+  pub address-after : address ≡ addressOr address₀ (outcome .0)
+  pub total-after : total ≡ totalOr total₀ (outcome .0)

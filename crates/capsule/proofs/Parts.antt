@@ -7,9 +7,9 @@ use native.Mathlib.Omega.{arith}
 use denote.Ref.{RefT}
 use lib.ListN.{length, take, drop, length-drop}
 use lib.Seq.{length-take-le}
-use Rattle.capsule_check.specs.Body.{part}
-use Rattle.capsule_check.specs.Payload.{payloadRight, vendorCodeEnd}
-use Rattle.capsule_check.proofs.Payload.{payload-fits}
+use Rattle.capsule_rules.specs.Body.{part}
+use Rattle.capsule_rules.specs.Payload.{payloadRight, vendorCodeEnd}
+use Rattle.capsule_rules.proofs.Payload.{payload-fits}
 use Rattle.capsule_check.specs.Item.{located}
 use Rattle.capsule_check.specs.declared.Item.the-variants.{Payload}
 use Rattle.capsule_check.proofs.Places.{payload-inside, payload-holds}

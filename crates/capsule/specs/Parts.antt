@@ -4,8 +4,8 @@ use Prim.Native.Nat.{ℕ, _+_}
 use mathlib.Core.Path.{_≡_}
 use mathlib.Core.List.{List}
 use denote.Ref.{RefT, ptr, now}
-use Rattle.capsule_check.specs.Body.{part}
-use Rattle.capsule_check.specs.Payload.{imageStart, imageEnd, vendorCodeEnd}
+use Rattle.capsule_rules.specs.Body.{part}
+use Rattle.capsule_rules.specs.Payload.{imageStart, imageEnd, vendorCodeEnd}
 use Rattle.capsule_check.specs.declared.Item.{Item}
 use Rattle.capsule_check.specs.declared.Item.the-variants.{Driver, Payload, Refused}
 

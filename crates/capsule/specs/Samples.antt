@@ -1,4 +1,4 @@
--- What the definitions compute: a capsule with one driver and one payload, and document 01's sample 12. No contract cites
+-- What the definitions compute: a capsule with one driver and one payload, the flag rule, document 01's sample 12, 13 and 15. No contract cites
 -- this file. Assumes nothing.
 use Prim.Native.Nat.{ℕ}
 use mathlib.Core.Path.{_≡_, refl}
@@ -8,10 +8,10 @@ use lib.ListN.{replicate, drop}
 use Rattle.fields.specs.Number.{le, bytes}
 use Rattle.fields.specs.Guid.{guid, same}
 use Rattle.refusals.specs.declared.Refusal.the-variants.{NoItem}
-use Rattle.capsule_check.specs.Header.{headerSize, flags, capsuleImageSize, sizesRight, flagsRight, fmpGuid, guidRight, body}
-use Rattle.capsule_check.specs.Payload.{version, typeGuid, imageIndex, imageSize, vendorCodeSize, hardwareInstance, versionRight, headerLength, payloadRight}
-use Rattle.capsule_check.specs.Body.{part, all, bodyVersion, drivers, payloads, offset, rises, offsetRight, bodyRight, itemEnd, item}
-use Rattle.capsule_check.specs.Payload.{payloadAtRight, payloadsRight}
+use Rattle.capsule_rules.specs.Header.{headerSize, flags, capsuleImageSize, sizesRight, flagsRight, fmpGuid, guidRight, body}
+use Rattle.capsule_rules.specs.Payload.{version, typeGuid, imageIndex, imageSize, vendorCodeSize, hardwareInstance, versionRight, headerLength, payloadRight}
+use Rattle.capsule_rules.specs.Body.{part, all, bodyVersion, drivers, payloads, offset, rises, offsetRight, bodyRight, itemEnd, item}
+use Rattle.capsule_rules.specs.Payload.{payloadAtRight, payloadsRight}
 use Rattle.capsule_check.specs.Verdict.{verdict, itemVerdict, verdictNumber, refusalNumber}
 use Rattle.capsule_check.specs.Item.{itemStartIn, itemEndIn, located}
 use Rattle.capsule_check.specs.declared.Item.the-variants.{Driver, Payload, Refused}
@@ -62,7 +62,7 @@ sample-12 : (verdictNumber (verdict (replicate 27 0)) ≡ 10) × (verdictNumber 
 unfolding le bytes guid same headerSize flags capsuleImageSize sizesRight flagsRight guidRight body bodyVersion bodyRight verdict
 sample-12 = (refl, refl, refl)
 
--- 13 for another GUID; 15 for any item number, also past the count, where the one payload has version 3
+-- 13 for another GUID; 15 for item 0 and for item 9, which is past the count, where the one payload has version 3
 abbrev version3 : List ℕ
 version3 = header 28 76 ++ bytes 4 1 ++ bytes 2 0 ++ bytes 2 1 ++ bytes 8 16 ++ bytes 4 3 ++ replicate 28 0
 

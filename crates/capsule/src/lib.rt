@@ -6,7 +6,7 @@ ghost use mathlib.Core.Path.{_≡_};
 ghost use mathlib.Core.Bool.{true};
 ghost use Prim.Native.Nat.{_≤_};
 ghost use lib.ListN.{length};
-ghost use Rattle.capsule_check.specs.Payload.{imageStart, imageEnd, vendorCodeEnd, payloadRight, imageIndex, hardwareInstance};
+ghost use Rattle.capsule_rules.specs.Payload.{imageStart, imageEnd, vendorCodeEnd, payloadRight, imageIndex, hardwareInstance};
 ghost use Rattle.capsule_check.specs.Verdict.{verdictNumber, refusalNumber};
 ghost use Rattle.capsule_check.specs.Item.{located};
 ghost use Rattle.capsule.specs.Parts.{IsPart, range, emptyAtStart, itemPart, imagePart, vendorCodePart};
@@ -56,7 +56,7 @@ fn image_start(p: &[u8]) -> usize
     requires { ⌜ payloadRight (now p) ≡ true ⌝ }
     ensures { λ r. ⌜ r ≡ imageStart (now (p .entry)) ⌝ }
 {
-    capsule_check::header_length(fields::read32(p, 0))
+    capsule_rules::header_length(fields::read32(p, 0))
 }
 
 // Where it ends there; the vendor code follows.

@@ -8,7 +8,7 @@ use Rattle.descriptors.specs.Reading.{lengthOf, addressOf, descriptorLim
 use Rattle.descriptors.specs.Scratch.{lengths}
 
 -- the descriptors from a on, each leading to the next: "Length above 0: a data block. Length 0 and Address above 0: go on at Address. Both
--- 0: end." Behind a data block the next stands 16 bytes on
+-- 0: end." Behind a data block the next stands 16 bytes on. That they lie in the window is for `Faultless` to say
 pub data Chain (w : List ℕ) (B : ℕ) : ℕ → List ℕ → Type 0 where
   block : {a : ℕ} {ds : List ℕ} → 0 < lengthOf w B a → Chain w B (a + 16) ds → Chain w B a (a ∷ ds)
   jump : {a : ℕ} {ds : List ℕ} → lengthOf w B a ≡ 0 → 0 < addressOf w B a → Chain w B (addressOf w B a) ds → Chain w B a (a ∷ ds)

@@ -4,13 +4,14 @@ use mathlib.Core.Bool.{Bool, true, false, cond}
 use mathlib.Core.List.{List}
 use Prim.Native.Nat.{ℕ, _+_, _-_, _≤_, _<_}
 use native.Mathlib.Omega.{arith}
-use borrow.Author.Tests.{eqb-false, ne-eqb}
+use borrow.Author.Tests.{eqb-true, eqb-false, ne-eqb}
 use lib.Dec.{eqb}
 use lib.ListN.{length}
 use Rattle.fields.specs.Number.{put}
 use Rattle.fields.proofs.Tests.{positive}
 use Rattle.fields.proofs.Put.{put-length, put-inside, put-outside}
 use Rattle.refusals.specs.Number.{numberOf}
+use Rattle.refusals.proofs.Number.{number-positive}
 use Rattle.refusals.specs.declared.Refusal.{Refusal}
 use Rattle.refusals.specs.declared.Refusal.the-variants.{TotalZero, NoPlace}
 use Rattle.descriptors.specs.Reading.{Reading, refused, whole, reading}
@@ -23,7 +24,7 @@ use Rattle.place.specs.declared.Place.{Place}
 use Rattle.place.specs.declared.Place.the-variants.{At, Nowhere}
 use Rattle.place.proofs.Law.{place-law, no-place-law, law-place, law-no-place}
 use Rattle.gather.specs.Gather.{Answer, refusal, place, blocks, copiedTo, finished, gathered}
-use Rattle.gather.specs.Law.{Succeeded, HadNoPlace}
+use Rattle.gather.specs.Law.{Succeeded, WasEmpty, HadNoPlace}
 use Rattle.gather.proofs.Copy.{blocks-length}
 use Rattle.gather.proofs.Ends.{total-zero, no-place, at-place, list-whole}
 
@@ -57,7 +58,7 @@ module _ (w : List ℕ) (B first : ℕ) where
   -- the four ways to an outcome
   data Way : Outcome → Type 0 where
     by-list : (n : Refusal) → reading w B first ≡ refused n → Way (refusal (numberOf n), w)
-    by-total : Way (refusal 6, w)
+    by-total : (t : ℕ) (ds : List ℕ) → reading w B first ≡ whole t ds → t ≡ 0 → Way (refusal 6, w)
     by-no-place : (t : ℕ) (ds : List ℕ) → reading w B first ≡ whole t ds → 0 < t → placeFor w B t ds ≡ Nowhere → Way (refusal 7, w)
     by-place : (t : ℕ) (ds : List ℕ) (q : ℕ) → reading w B first ≡ whole t ds → 0 < t → placeFor w B t ds ≡ At q
         → Way (place q t, put w (q - B) (blocks w B ds))
@@ -69,7 +70,7 @@ module _ (w : List ℕ) (B first : ℕ) where
 
   way-of : (t : ℕ) (ds : List ℕ) (b : Bool) → reading w B first ≡ whole t ds → eqb t 0 ≡ b
       → Way (cond b (refusal (numberOf TotalZero), w) (copiedTo (placeFor w B t ds) w B t ds))
-  way-of t ds true r e = by-total
+  way-of t ds true r e = by-total t ds r (eqb-true t 0 e)
   way-of t ds false r e = way-at t ds (placeFor w B t ds) r (positive t (eqb-false t 0 e)) refl
 
   way-from : (X : Reading) → reading w B first ≡ X → Way (finished w B X)
@@ -114,7 +115,7 @@ module _ (w : List ℕ) (B first : ℕ) where
 
   if-placed : (o : Outcome) (p total : ℕ) (w′ : List ℕ) → Way o → o ≡ (place p total, w′) → Succeeded w B first p total w′
   if-placed o p total w′ (by-list n r) x = absurd (not-placed (numberOf n) w w′ p total x)
-  if-placed o p total w′ by-total x = absurd (not-placed 6 w w′ p total x)
+  if-placed o p total w′ (by-total t ds r z) x = absurd (not-placed 6 w w′ p total x)
   if-placed o p total w′ (by-no-place t ds r some e) x = absurd (not-placed 7 w w′ p total x)
   if-placed o p total w′ (by-place t ds q r some e) x = moved q t p total (put w (q - B) (blocks w B ds)) w′ x (success t ds q r some e)
 
@@ -122,9 +123,21 @@ module _ (w : List ℕ) (B first : ℕ) where
   pub success-law : (p total : ℕ) (w′ : List ℕ) → gathered w B first ≡ (place p total, w′) → Succeeded w B first p total w′
   success-law p total w′ x = if-placed (gathered w B first) p total w′ way x
 
+  if-6 : (o : Outcome) (w′ : List ℕ) → Way o → o ≡ (refusal 6, w′) → WasEmpty w B first w′
+  if-6 o w′ (by-list n r) x = absurd (omega (arith, same-refusal (numberOf n) 6 w w′ x .0, refused-early w B first n r))
+  if-6 o w′ (by-total t ds r z) x =
+      let f = whole-law w B first t ds r in
+      record { descriptors = ds; list = f .0; zero = sym (f .1) ∙ z; unchanged = sym (same-refusal 6 6 w w′ x .1); }
+  if-6 o w′ (by-no-place t ds r some e) x = absurd (omega (arith, same-refusal 7 6 w w′ x .0))
+  if-6 o w′ (by-place t ds q r some e) x = absurd (not-refused 6 (put w (q - B) (blocks w B ds)) w′ q t x)
+
+  -- 6 is answered only where the lengths of a faultless list add up to 0
+  pub refusal-6-law : (w′ : List ℕ) → gathered w B first ≡ (refusal 6, w′) → WasEmpty w B first w′
+  refusal-6-law w′ x = if-6 (gathered w B first) w′ way x
+
   if-7 : (o : Outcome) (w′ : List ℕ) → Way o → o ≡ (refusal 7, w′) → HadNoPlace w B first w′
   if-7 o w′ (by-list n r) x = absurd (omega (arith, same-refusal (numberOf n) 7 w w′ x .0, refused-early w B first n r))
-  if-7 o w′ by-total x = absurd (omega (arith, same-refusal 6 7 w w′ x .0))
+  if-7 o w′ (by-total t ds r z) x = absurd (omega (arith, same-refusal 6 7 w w′ x .0))
   if-7 o w′ (by-no-place t ds r some e) x =
       let f = whole-law w B first t ds r in
       let none : NoneFree w B t ds = no-place-law w B t ds some e in
@@ -143,13 +156,25 @@ module _ (w : List ℕ) (B first : ℕ) where
 
   if-refused : (o : Outcome) (n : ℕ) (w′ : List ℕ) → Way o → o ≡ (refusal n, w′) → w′ ≡ w
   if-refused o n w′ (by-list m r) x = sym (same-refusal (numberOf m) n w w′ x .1)
-  if-refused o n w′ by-total x = sym (same-refusal 6 n w w′ x .1)
+  if-refused o n w′ (by-total t ds r z) x = sym (same-refusal 6 n w w′ x .1)
   if-refused o n w′ (by-no-place t ds r some e) x = sym (same-refusal 7 n w w′ x .1)
   if-refused o n w′ (by-place t ds q r some e) x = absurd (not-refused n (put w (q - B) (blocks w B ds)) w′ q t x)
 
   -- a refusal "changes no byte of what was lent to it" (demand 1)
   pub refusal-law : (n : ℕ) (w′ : List ℕ) → gathered w B first ≡ (refusal n, w′) → w′ ≡ w
   refusal-law n w′ x = if-refused (gathered w B first) n w′ way x
+
+  if-number : (o : Outcome) (n : ℕ) (w′ : List ℕ) → Way o → o ≡ (refusal n, w′) → (1 ≤ n) × (n ≤ 7)
+  if-number o n w′ (by-list m r) x =
+      let e = same-refusal (numberOf m) n w w′ x .0 in
+      (omega (arith, e, number-positive m), omega (arith, e, refused-early w B first m r))
+  if-number o n w′ (by-total t ds r z) x = let e = same-refusal 6 n w w′ x .0 in (omega (arith, e), omega (arith, e))
+  if-number o n w′ (by-no-place t ds r some q) x = let e = same-refusal 7 n w w′ x .0 in (omega (arith, e), omega (arith, e))
+  if-number o n w′ (by-place t ds q r some e) x = absurd (not-refused n (put w (q - B) (blocks w B ds)) w′ q t x)
+
+  -- a refusal's number is one of 1 to 7, so that 0 can stand for none
+  pub refusal-numbers : (n : ℕ) (w′ : List ℕ) → gathered w B first ≡ (refusal n, w′) → (1 ≤ n) × (n ≤ 7)
+  refusal-numbers n w′ x = if-number (gathered w B first) n w′ way x
 
   -- and back: a faultless list is refused by 6 where its total is 0, else gathered at its lowest free start, else refused by 7
   module _ (ds : List ℕ) (f : Faultless w B first ds) where

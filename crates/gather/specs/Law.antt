@@ -1,5 +1,5 @@
--- What `gathered` is proved to mean, said without the walk and without the search (proofs/Law.antt), in the words of document 01 and of
--- demand 2. Names as in specs/Gather.antt. Assumes nothing.
+-- What a place, 6 and 7 are proved to mean where `gathered` gives them, said without the walk and without the search (proofs/Law.antt), in the
+-- words of document 01 and of demand 2. When 1 to 5 are given is said by `walk` alone. Names as in specs/Gather.antt. Assumes nothing.
 use Prim.Native.Nat.{ℕ, _+_, _-_, _≤_, _<_}
 use mathlib.Core.List.{List}
 use mathlib.Core.Logic.{_⊎_}
@@ -22,6 +22,13 @@ pub record Succeeded (w : List ℕ) (B first p total : ℕ) (afterwards : List �
   pub length-kept : length afterwards ≡ length w
   pub at-place : (k : ℕ) → k < total → getD afterwards (p - B + k) 0 ≡ getD (blocks w B descriptors) k 0
   pub outside : (i : ℕ) → (i < p - B) ⊎ (p - B + total ≤ i) → getD afterwards i 0 ≡ getD w i 0
+
+-- 6: "total 0"
+pub record WasEmpty (w : List ℕ) (B first : ℕ) (afterwards : List ℕ) : Type 0 where
+  pub descriptors : List ℕ
+  pub list : Faultless w B first descriptors
+  pub zero : lengths w B descriptors ≡ 0
+  pub unchanged : afterwards ≡ w
 
 -- 7: "says no room only where no such place exists"
 pub record HadNoPlace (w : List ℕ) (B first : ℕ) (afterwards : List ℕ) : Type 0 where

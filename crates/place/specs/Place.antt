@@ -12,7 +12,7 @@ use Rattle.descriptors.specs.Reading.{lengthOf, addressOf}
 use Rattle.place.specs.declared.Place.{Place}
 use Rattle.place.specs.declared.Place.the-variants.{At, Nowhere}
 
--- two ranges of at least one byte, t at p and n at s, "share no byte"
+-- two ranges of at least one byte, t at p and n at s, share no byte
 unfoldable pub apart : ℕ → ℕ → ℕ → ℕ → Bool
 apart p t s n = leb (p + t) s || leb (s + n) p
 

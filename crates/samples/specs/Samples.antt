@@ -1,4 +1,4 @@
--- The starred samples of document 01 ("Samples on the rail") whose definitions stand, 1 to 7 and 9 to 11, as one table under a single claim. A sample
+-- The starred samples of document 01 ("Samples on the rail"), 1 to 7 and 9 to 11, as one table under a single claim. A sample
 -- of another kind joins as one more constructor of `Sample`, one more line of `holds` and its rows. Assumes nothing.
 use Prim.Native.Nat.{ℕ, _-_, _^_}
 use mathlib.Core.Bool.{Bool, true, false, _&&_}

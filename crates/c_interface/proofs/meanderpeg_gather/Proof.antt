@@ -9,10 +9,10 @@ use Rattle.c_interface.proofs.meanderpeg_gather.Statement.{statement}
 use Rattle.c_interface.proofs.meanderpeg_gather.Tie as tie
 
 refused : (o : Answer × List ℕ) (n r p t : ℕ) (w : List ℕ) → _≡_ {A = Answer × List ℕ} (refusal n, w) o → r ≡ n → Exported o p t r w p t
-refused o n r p t w e h = rw (← e) (record { answered = h; window = refl; address-set = refl; total-set = refl })
+refused o n r p t w e h = rw (← e) (record { answered = h; window = refl; address-after = refl; total-after = refl })
 
 placed : (o : Answer × List ℕ) (a s p t : ℕ) (w : List ℕ) → _≡_ {A = Answer × List ℕ} (place a s, w) o → Exported o p t 0 w a s
-placed o a s p t w e = rw (← e) (record { answered = refl; window = refl; address-set = refl; total-set = refl })
+placed o a s p t w e = rw (← e) (record { answered = refl; window = refl; address-after = refl; total-after = refl })
 
 gather-requires : tie.Need-gather-requires
 gather-requires c κs = search needs

@@ -2,8 +2,8 @@
 use borrow.Author.Needs.{needs}
 use mathlib.Core.Path.{ap, _∙_}
 use native.Mathlib.Omega.{arith}
-use Rattle.capsule_check.specs.Payload.{imageSize}
-use Rattle.capsule_check.proofs.Payload.{first-header, payload-fits}
+use Rattle.capsule_rules.specs.Payload.{imageSize}
+use Rattle.capsule_rules.proofs.Payload.{first-header, payload-fits}
 use Rattle.capsule.proofs.image_end.Statement.{statement}
 use Rattle.capsule.proofs.image_end.Tie as tie
 

@@ -2,8 +2,8 @@
 use borrow.Author.Needs.{needs}
 use mathlib.Core.Path.{ap, _∙_}
 use native.Mathlib.Omega.{arith}
-use Rattle.capsule_check.specs.Payload.{version, headerLength}
-use Rattle.capsule_check.proofs.Payload.{first-header}
+use Rattle.capsule_rules.specs.Payload.{version, headerLength}
+use Rattle.capsule_rules.proofs.Payload.{first-header}
 use Rattle.capsule.proofs.image_start.Statement.{statement}
 use Rattle.capsule.proofs.image_start.Tie as tie
 

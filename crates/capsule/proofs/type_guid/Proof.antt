@@ -4,8 +4,8 @@ use mathlib.Core.Path.{_≡_, sym, ap, _∙_}
 use mathlib.Core.List.{List}
 use Prim.Native.Nat.{ℕ}
 use native.Mathlib.Omega.{arith}
-use Rattle.capsule_check.specs.Payload.{typeGuid}
-use Rattle.capsule_check.proofs.Payload.{first-header}
+use Rattle.capsule_rules.specs.Payload.{typeGuid}
+use Rattle.capsule_rules.proofs.Payload.{first-header}
 use Rattle.fields.specs.Guid.{guid}
 use Rattle.capsule_check.specs.Item.{located}
 use Rattle.capsule_check.specs.declared.Item.the-variants.{Payload}

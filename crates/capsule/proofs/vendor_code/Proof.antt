@@ -4,7 +4,7 @@ use mathlib.Core.Path.{_≡_, sym, ap, _∙_}
 use mathlib.Core.List.{List}
 use Prim.Native.Nat.{ℕ, _+_}
 use native.Mathlib.Omega.{arith}
-use Rattle.capsule_check.specs.Payload.{imageEnd, vendorCodeEnd}
+use Rattle.capsule_rules.specs.Payload.{imageEnd, vendorCodeEnd}
 use Rattle.capsule_check.specs.Item.{located}
 use Rattle.capsule_check.specs.declared.Item.the-variants.{Driver, Payload}
 use Rattle.capsule_check.proofs.Places.{driver-inside, payload-inside}

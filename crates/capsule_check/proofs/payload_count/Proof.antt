@@ -6,9 +6,9 @@ use Prim.Native.Nat.{ℕ, _≤_}
 use native.Mathlib.Omega.{arith}
 use lib.ListN.{length}
 use Rattle.fields.specs.Number.{le}
-use Rattle.capsule_check.specs.Header.{body}
-use Rattle.capsule_check.specs.Body.{payloads}
-use Rattle.capsule_check.proofs.Body.{list-fits}
+use Rattle.capsule_rules.specs.Header.{body}
+use Rattle.capsule_rules.specs.Body.{payloads}
+use Rattle.capsule_rules.proofs.Body.{list-fits}
 use Rattle.capsule_check.specs.Verdict.{verdict}
 use Rattle.capsule_check.specs.declared.Verdict.the-variants.{Faultless}
 use Rattle.capsule_check.proofs.Faultless.{faultless, Sound}

@@ -1,0 +1,2 @@
+-- Laws about the definitions of specs/, for the crates above.
+pub mod Number
