@@ -1,0 +1,3 @@
+-- The proof. Assumes nothing.
+pub mod Crc
+pub mod Places
