@@ -1,3 +1,4 @@
 -- The proof. Assumes nothing.
 pub mod Crc
 pub mod Places
+pub mod Says
