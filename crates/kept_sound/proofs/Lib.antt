@@ -2,3 +2,4 @@
 pub mod Crc
 pub mod Places
 pub mod Says
+pub mod Good
