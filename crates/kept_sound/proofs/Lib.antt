@@ -3,3 +3,4 @@ pub mod Crc
 pub mod Places
 pub mod Says
 pub mod Good
+pub mod Carried
