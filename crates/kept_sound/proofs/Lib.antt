@@ -4,3 +4,4 @@ pub mod Places
 pub mod Says
 pub mod Good
 pub mod Carried
+pub mod Calls
