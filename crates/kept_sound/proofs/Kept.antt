@@ -1,20 +1,20 @@
 -- Every accepted call keeps the record sound, and makes of its fields what its line says. Assumes nothing.
-use mathlib.Core.Path.{_≡_, refl, sym, ap, _∙_}
+use mathlib.Core.Path.{_≡_, sym}
 use mathlib.Core.Bool.{true}
 use mathlib.Core.List.{List}
 use Prim.Native.Nat.{ℕ, _<_}
 use Rattle.fields.specs.Number.{Bytes}
-use Rattle.record.specs.Layout.{active, previous, bankCount, imageCount}
+use Rattle.record.specs.Layout.{active, bankCount, imageCount}
 use Rattle.record.specs.Rules.{sound}
 use Rattle.record.specs.Sized.{Sized}
-use Rattle.record.proofs.Sound.{sound-sized, sound-named}
+use Rattle.record.proofs.Sound.{sound-sized}
 use Rattle.alterations.specs.Fields.{withCrc}
 use Rattle.changes.specs.NewRecord.{updateBankOf, begunRecord, committedRecord, endedRecord, acceptedRecord, exchangedRecord}
 use Rattle.kept_sound.specs.Fields.{Fields, fieldsOf, Reads, FieldsMade, CallsMake}
 use Rattle.kept_sound.specs.Kept.{Kept, KeptSound, CallsKeepSound}
 use Rattle.kept_sound.proofs.Says.{Says, says-crc, crc-agrees}
 use Rattle.kept_sound.proofs.Good.{Good, update-low, update-differs, good-begun, good-committed, good-ended, good-accepted, good-exchanged}
-use Rattle.kept_sound.proofs.Carried.{good-of, flag-reads, sound-of}
+use Rattle.kept_sound.proofs.Carried.{good-of, banks-stay, images-stay, types-stay, flag-reads, sound-of}
 use Rattle.kept_sound.proofs.Calls.{begin-says, commit-says, end-says, accept-says, exchange-says}
 
 module _ (r : List ℕ) (small : Bytes r) (e : sound r ≡ true) where
@@ -51,6 +51,9 @@ module _ (r : List ℕ) (small : Bytes r) (e : sound r ≡ true) where
           state-is = finished .state-is;
           flag-is = flag-reads r (withCrc x) f finished;
           stays = finished .stays;
+          banks-is = banks-stay r (withCrc x) f finished;
+          images-is = images-stay r (withCrc x) f finished;
+          type-is = types-stay r (withCrc x) f finished;
         }
 
   all-kept : KeptSound r

@@ -6,3 +6,4 @@ pub mod Good
 pub mod Carried
 pub mod Calls
 pub mod Kept
+pub mod Again

@@ -9,7 +9,7 @@ use lib.Dec.{eqb}
 use lib.ListN.{getD}
 use Rattle.fields.specs.Number.{Bytes}
 use Rattle.record.specs.Every.{below}
-use Rattle.record.specs.Layout.{bankLimit, crcAt, activeAt, previousAt, stateAt, acceptedAt, active, previous, state, bankCount, imageCount, accepted}
+use Rattle.record.specs.Layout.{bankLimit, crcAt, activeAt, previousAt, stateAt, acceptedAt, active, previous, state, bankCount, imageCount, typeGuid, accepted}
 use Rattle.record.specs.Rules.{invalid, valid, acceptedBank, sound}
 use Rattle.changes.specs.NewRecord.{updateBankOf, begunRecord, committedRecord, endedRecord, acceptedRecord, exchangedRecord}
 
@@ -96,13 +96,16 @@ pub record Elsewhere (banks images k : ℕ) : Type 0 where
   pub off-states : Outside (stateAt 0) bankLimit k
   pub off-flags : (i b : ℕ) → i < images → b < banks → Outside (acceptedAt banks i b) 4 k
 
--- the new record read: it has those fields, and each byte elsewhere is the old record's
+-- the new record read: it has those fields; each byte elsewhere is the old record's, so it has as many banks and images, of the same types
 pub record Reads (r new : List ℕ) (f : Fields) : Type 0 where
   pub active-is : active new ≡ f .active-bank
   pub previous-is : previous new ≡ f .previous-bank
   pub state-is : (b : ℕ) → b < bankLimit → state new b ≡ f .states b
   pub flag-is : (i b : ℕ) → i < imageCount r → b < bankCount r → accepted new i b ≡ f .flags i b
   pub stays : (k : ℕ) → Elsewhere (bankCount r) (imageCount r) k → getD new k 0 ≡ getD r k 0
+  pub banks-is : bankCount new ≡ bankCount r
+  pub images-is : imageCount new ≡ imageCount r
+  pub type-is : (i : ℕ) → typeGuid new i ≡ typeGuid r i
 
 -- the record that each call makes, read
 pub record FieldsMade (r : List ℕ) : Type 0 where
