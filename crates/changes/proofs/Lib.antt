@@ -2,3 +2,4 @@
 pub mod Words
 pub mod Setting
 pub mod Making
+pub mod Listing

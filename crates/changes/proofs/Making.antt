@@ -87,12 +87,16 @@ module _ (r : List ℕ) (e : sound r ≡ true) where
       within = record { bank = update-in; images = omega arith };
     }
 
-    pub end-makes : (s : ℕ) → s ≡ cond (allAccepted r (updateBankOf r)) acceptedBank valid → s < 256 →
+    ended-low : (all : Bool) → cond all acceptedBank valid < 256
+    ended-low true = omega arith
+    ended-low false = omega arith
+
+    pub end-makes :
         Makes
         (record {
           active = updateBankOf r;
           previous = active r;
-          states = le 4 (setState (updateBankOf r) s r) 24;
+          states = le 4 (setState (updateBankOf r) (cond (allAccepted r (updateBankOf r)) acceptedBank valid) r) 24;
           bank = updateBankOf r;
           first = 0;
           count = 0;
@@ -100,15 +104,19 @@ module _ (r : List ℕ) (e : sound r ≡ true) where
         })
         r (endedRecord r)
     unfolding endedRecord alteredBy
-    end-makes s p ls = record {
-      new-is =
-          ap withCrc
-          (flagged-none 0 (updateBankOf r) 0 (put (setPrevious (active r) (setActive (updateBankOf r) r)) 24 (bytes 4 (le 4 (setState (updateBankOf r) s r) 24)))
-          ∙ words-order r header (updateBankOf r) (active r) (le 4 (setState (updateBankOf r) s r) 24)
-          ∙ ap (λ (l : List ℕ). setActive (updateBankOf r) (setPrevious (active r) l)) (states-put r header (updateBankOf r) s update-low bs ls)
-          ∙ ap (λ (t : ℕ). setActive (updateBankOf r) (setPrevious (active r) (setState (updateBankOf r) t r))) p);
-      within = record { bank = update-in; images = omega arith };
-    }
+    end-makes =
+        let u = updateBankOf r in
+        let all = allAccepted r u in
+        let t = cond all acceptedBank valid in
+        let w = le 4 (setState u t r) 24 in
+        record {
+          new-is =
+              ap withCrc
+              (flagged-none 0 u 0 (put (setPrevious (active r) (setActive u r)) 24 (bytes 4 w))
+              ∙ words-order r header u (active r) w
+              ∙ ap (λ (l : List ℕ). setActive u (setPrevious (active r) l)) (states-put r header u t update-low bs (ended-low all)));
+          within = record { bank = update-in; images = omega arith };
+        }
 
     pub exchange-makes :
         Makes

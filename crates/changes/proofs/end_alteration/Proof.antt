@@ -3,6 +3,7 @@ use borrow.Author.Needs.{needs}
 use native.Mathlib.Omega.{arith}
 use mathlib.Core.Path.{_≡_, refl, sym, ap, _∙_}
 use Rattle.changes.proofs.Making.{header, update-low, end-makes}
+use Rattle.changes.proofs.Making.{banks-few}
 use Rattle.changes.proofs.end_alteration.Statement.{statement}
 use Rattle.changes.proofs.end_alteration.Tie as tie
 
@@ -13,7 +14,7 @@ end-state-requires : tie.Need-end-state-requires
 end-state-requires c κs = search needs
 
 cast-t4 : tie.Need-cast-t4
-cast-t4 c = search needs
+cast-t4 c = let u = c .before in let s = u .before .before in omega (arith, u .update-bank .ensures .1, banks-few (s .args .r .now) (s .pre) .1)
 
 read32-requires : tie.Need-read32-requires
 read32-requires c κs = let s = c .before .before .before in omega (arith, header (s .args .r .now) (s .pre))
@@ -31,9 +32,8 @@ returns c =
     let u = t .before in
     let k = u .before in
     let s = k .before in
-    let e = u .update-bank .ensures .0 in
-    rw (c .states-with .ensures, a .read32 .ensures, e)
-    (end-makes (s .args .r .now) (s .pre) (λ i. k .shared-slice-known .given i .fits) (t .end-state .result) (rw (← e) (t .end-state .ensures)) (t .end-state .fits))
+    rw (c .states-with .ensures, a .read32 .ensures, t .end-state .ensures, u .update-bank .ensures .0)
+    (end-makes (s .args .r .now) (s .pre) (λ i. k .shared-slice-known .given i .fits))
 
 pub end-alteration-spec : {M : Type 1} → statement M
 end-alteration-spec =

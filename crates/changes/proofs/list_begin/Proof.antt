@@ -2,6 +2,7 @@
 use borrow.Author.Needs.{needs}
 use native.Mathlib.Omega.{arith}
 use mathlib.Core.Path.{_≡_, refl, sym, ap, _∙_}
+use Rattle.changes.proofs.Listing.{first-sound}
 use Rattle.changes.proofs.list_begin.Statement.{statement}
 use Rattle.changes.proofs.list_begin.Tie as tie
 
@@ -18,16 +19,24 @@ record-in-requires : tie.Need-record-in-requires
 record-in-requires c κs = search needs
 
 begin-alteration-requires : tie.Need-begin-alteration-requires
-begin-alteration-requires c κs = search needs
+begin-alteration-requires c κs =
+    let s = c .before .before .before .before in
+    rw (c .record-in .ensures) (first-sound (s .args .area .now) (s .pre .equal))
 
 list-change-requires : tie.Need-list-change-requires
-list-change-requires c κs = search needs
+list-change-requires c κs =
+    let x = c .before in
+    let s = x .before .before .before .before .before in
+    (s .pre, rw (← x .before .record-in .ensures) (x .begin-alteration .ensures .within))
 
 same-length : tie.Need-same-length
 same-length c = search needs
 
 returns : tie.Need-returns
-returns c = search needs
+returns c =
+    let l = c .before .before in
+    let x = l .before .before in
+    rw (sym (rw (x .before .record-in .ensures) at (x .begin-alteration .ensures .new-is))) (l .list-change .ensures)
 
 pub list-begin-spec : {M : Type 1} → statement M
 list-begin-spec =
