@@ -1,8 +1,8 @@
 -- The alteration of each call makes the call's record. Assumes nothing.
-use mathlib.Core.Path.{_≡_, refl, sym, ap, _∙_}
+use mathlib.Core.Path.{_≡_, refl, ap, _∙_}
 use mathlib.Core.Bool.{Bool, true, false, cond}
 use mathlib.Core.List.{List}
-use Prim.Native.Nat.{ℕ, zero, suc, _+_, _%_, _≤_, _<_}
+use Prim.Native.Nat.{ℕ, _+_, _≤_, _<_}
 use native.Mathlib.Nat.{mod-lt}
 use native.Mathlib.Omega.{arith}
 use lib.Dec.{eqb}
@@ -13,13 +13,17 @@ use Rattle.record.specs.Rules.{invalid, valid, acceptedBank, allAccepted, sound
 use Rattle.record.specs.Sized.{Sized}
 use Rattle.record.proofs.Sizes.{header-in}
 use Rattle.record.proofs.Sound.{sound-sized, sound-named}
-use Rattle.alterations.specs.declared.Alteration.{Alteration}
 use Rattle.alterations.specs.Fields.{setActive, setPrevious, setState, setAccepted, withCrc}
-use Rattle.alterations.specs.Altered.{flagged, alteredBy, Within}
+use Rattle.alterations.specs.Altered.{alteredBy}
 use Rattle.changes.specs.NewRecord.{updateBankOf, begunRecord, committedRecord, endedRecord, marked, acceptedRecord, exchangedRecord}
 use Rattle.changes.specs.Makes.{Makes}
 use Rattle.changes.proofs.Words.{Bytes}
 use Rattle.changes.proofs.Setting.{active-kept, previous-kept, states-kept, words-order, states-put, flagged-first, flagged-one, flagged-none, accepted-state}
+
+-- what Accept marks, by its bank
+pub marked-is : (i : ℕ) (r : List ℕ) → marked i r ≡ setAccepted i (active r) 1 r
+unfolding marked
+marked-is i r = refl
 
 -- what a sound record has
 module _ (r : List ℕ) (e : sound r ≡ true) where

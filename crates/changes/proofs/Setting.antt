@@ -1,5 +1,5 @@
 -- Laws of a record with one field anew. Assumes nothing.
-use mathlib.Core.Path.{_≡_, refl, sym, ap, subst, _∙_}
+use mathlib.Core.Path.{_≡_, refl, sym, ap, _∙_}
 use mathlib.Core.Logic.{_⊎_, inl, inr, ⊎-elim}
 use mathlib.Core.List.{List, [], _∷_}
 use Prim.Native.Nat.{ℕ, zero, suc, _+_, _*_, _≤_, _<_}
@@ -23,9 +23,6 @@ either-side m n ne = ⊎-elim (λ le. inr (⊎-elim (λ ge. absurd (ne (omega ar
 
 -- ---- the header's words
 module _ (r : List ℕ) (h : 40 ≤ length r) where
-  room : (o v : ℕ) → o + 4 ≤ 40 → o + length (bytes 4 v) ≤ length r
-  room o v k = omega (arith, length-bytes 4 v)
-
   -- active and previous as they were
   pub active-kept : Bytes r → setActive (active r) r ≡ r
   unfolding setActive
@@ -66,10 +63,6 @@ module _ (r : List ℕ) (h : 40 ≤ length r) where
     pub state-other : (j : ℕ) → (j ≡ b → ⊥) → state (setState b s r) j ≡ state r j
     unfolding setState
     state-other j ne = put-outside r (24 + b) (s ∷ []) fits (24 + j) (⊎-elim (λ lt. inl (omega arith)) (λ gt. inr (omega arith)) (either-side j b ne))
-
-    pub states-length : length (setState b s r) ≡ length r
-    unfolding setState
-    states-length = put-length r (24 + b) (s ∷ []) fits
 
     pub states-banks : bankCount (setState b s r) ≡ bankCount r
     unfolding setState

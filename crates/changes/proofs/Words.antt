@@ -1,7 +1,7 @@
 -- Stores of bytes that do not meet, and a word put where it was read. Assumes nothing.
-use mathlib.Core.Path.{_≡_, refl, sym, ap, subst, _∙_}
+use mathlib.Core.Path.{_≡_, refl, sym, subst, _∙_}
 use mathlib.Core.Logic.{_⊎_, inl, inr}
-use mathlib.Core.List.{List, [], _∷_}
+use mathlib.Core.List.{List}
 use Prim.Native.Nat.{ℕ, zero, suc, _+_, _*_, _-_, _/_, _≤_, _<_}
 use native.Mathlib.Nat.{add-zero}
 use native.Mathlib.Omega.{arith}
@@ -42,8 +42,10 @@ put-swap s i j xs ys apart fits =
   where
     fi : i + length xs ≤ length s
     fi = omega arith
+
     fj : j + length ys ≤ length (put s i xs)
     fj = rw (put-length s i xs fi) fits
+
     out : (k : ℕ) → (k < i) ⊎ (i + length xs ≤ k) → Dec (k < j) → Dec (j + length ys ≤ k) → getD (put (put s i xs) j ys) k 0 ≡ getD (put s j ys) k 0
     out k h (yes p) q = put-outside (put s i xs) j ys fj k (inl p) ∙ put-outside s i xs fi k h ∙ sym (put-outside s j ys fits k (inl p))
     out k h (no p) (yes q) = put-outside (put s i xs) j ys fj k (inr q) ∙ put-outside s i xs fi k h ∙ sym (put-outside s j ys fits k (inr q))

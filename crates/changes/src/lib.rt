@@ -100,13 +100,14 @@ fn begin_alteration(r: &[u8]) -> Alteration
     ensures { λ x. ⌜ Makes x (now (r .entry)) (begunRecord (now (r .entry))) ⌝ }
 {
     let bank = update_bank(r);
+    let images = read16(r, 34) as usize;
     Alteration {
         active: read32(r, 8),
         previous: read32(r, 12),
         states: states_with(r, bank, 255),
         bank,
         first: 0,
-        count: read16(r, 34) as usize,
+        count: images,
         flag: 0,
     }
 }
@@ -204,9 +205,11 @@ fn exchange_alteration(r: &[u8]) -> Alteration
     requires { ⌜ sound (now r) ≡ true ⌝ }
     ensures { λ x. ⌜ Makes x (now (r .entry)) (exchangedRecord (now (r .entry))) ⌝ }
 {
+    let active = read32(r, 8);
+    let previous = read32(r, 12);
     Alteration {
-        active: read32(r, 12),
-        previous: read32(r, 8),
+        active: previous,
+        previous: active,
         states: read32(r, 24),
         bank: 0,
         first: 0,

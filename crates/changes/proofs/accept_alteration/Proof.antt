@@ -1,7 +1,6 @@
 -- `accept_alteration` meets its contract. Assumes nothing.
 use borrow.Author.Needs.{needs}
 use native.Mathlib.Omega.{arith}
-use mathlib.Core.Path.{_≡_, refl, sym, ap, _∙_}
 use Rattle.changes.proofs.Making.{header, accept-makes}
 use Rattle.changes.proofs.accept_alteration.Statement.{statement}
 use Rattle.changes.proofs.accept_alteration.Tie as tie

@@ -1,7 +1,7 @@
 -- `accept_states` meets its contract. Assumes nothing.
 use borrow.Author.Needs.{needs}
 use native.Mathlib.Omega.{arith}
-use mathlib.Core.Path.{_≡_, refl, sym, ap, _∙_}
+use mathlib.Core.Path.{sym, _∙_}
 use Rattle.changes.proofs.Making.{header, sized, active-low}
 use Rattle.record.proofs.Sound.{sound-named}
 use Rattle.changes.proofs.accept_states.Statement.{statement}

@@ -1,13 +1,10 @@
 -- `accepted_with` meets its contract. Assumes nothing.
 use borrow.Author.Needs.{needs}
 use native.Mathlib.Omega.{arith}
-use mathlib.Core.Path.{_≡_, refl, sym, ap, _∙_}
-use borrow.Author.Tests.{le-leb, lt-leb, eq-eqb, ne-eqb}
-use Rattle.record.proofs.Sizes.{bank-in, guid-in, header-in}
+use mathlib.Core.Path.{_≡_}
+use Rattle.record.proofs.Sizes.{bank-in}
 use Prim.Native.Nat.{_+_, _*_, _≤_}
 use lib.ListN.{length}
-use lib.Dec.{eqb}
-use Rattle.fields.specs.Number.{le}
 use Rattle.record.specs.Layout.{accepted}
 use Rattle.changes.proofs.Setting.{accepted-is, accepted-other}
 use Rattle.changes.proofs.accepted_with.Statement.{statement}

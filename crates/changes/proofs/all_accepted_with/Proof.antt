@@ -1,12 +1,11 @@
 -- `all_accepted_with` meets its contract. The loop's invariant: the images below k are accepted once image i is. Assumes nothing.
 use borrow.Author.Needs.{needs}
 use native.Mathlib.Omega.{arith}
-use mathlib.Core.Path.{_≡_, refl, sym, ap, _∙_}
-use lib.ListN.{length}
+use mathlib.Core.Path.{_≡_, sym, _∙_}
 use mathlib.Core.List.{List}
 use lib.Dec.{eqb}
-use mathlib.Core.Bool.{Bool, true, false}
-use Prim.Native.Nat.{ℕ, _+_, _-_, _≤_, _<_}
+use mathlib.Core.Bool.{Bool, true}
+use Prim.Native.Nat.{ℕ, _-_, _≤_}
 use borrow.Author.Tests.{not-true, not-false}
 use Rattle.record.specs.Every.{below}
 use Rattle.record.proofs.Below.{below-none, below-more, below-stop}
@@ -42,6 +41,11 @@ loop-holds c =
 accepted-with-requires : tie.Need-accepted-with-requires Inv-loop μ-loop
 accepted-with-requires c κs = search needs
 
+-- what was answered of image k
+tested : (c : tie.After-accepted-with Inv-loop μ-loop)
+    → let l = c .before .before in let a = l .before .before .args in c .accepted-with .result ≡ test (a .r .now) (a .b) (a .i) (l .loop .k)
+tested c = c .accepted-with .ensures
+
 returns : tie.Need-returns Inv-loop μ-loop
 unfolding allAccepted
 returns c =
@@ -49,7 +53,7 @@ returns c =
     let a = l .before .before .args in
     sym
     (below-stop (test (a .r .now) (a .b) (a .i)) (imageCount (setAccepted (a .i) (a .b) 1 (a .r .now))) (l .loop .k)
-    (rw (counted (l .before)) (c .before .before .loop-test .taken)) (sym (c .before .accepted-with .ensures) ∙ not-true _ (c .if1 .taken)))
+    (rw (counted (l .before)) (c .before .before .loop-test .taken)) (sym (tested (c .before)) ∙ not-true _ (c .if1 .taken)))
 
 add-k : tie.Need-add-k Inv-loop μ-loop
 add-k c = search needs
@@ -62,7 +66,7 @@ loop-again c =
     let l = c .before .before .before in
     let a = l .before .before .args in (
       omega arith,
-      below-more (test (a .r .now) (a .b) (a .i)) (l .loop .k) (l .loop .inv .1) (sym (c .before .accepted-with .ensures) ∙ not-false _ (c .if1 .left)),
+      below-more (test (a .r .now) (a .b) (a .i)) (l .loop .k) (l .loop .inv .1) (sym (tested (c .before)) ∙ not-false _ (c .if1 .left)),
     )
 
 returns-2 : tie.Need-returns-2 Inv-loop μ-loop

@@ -1,7 +1,6 @@
 -- `commit_alteration` meets its contract. Assumes nothing.
 use borrow.Author.Needs.{needs}
 use native.Mathlib.Omega.{arith}
-use mathlib.Core.Path.{_≡_, refl, sym, ap, _∙_}
 use Rattle.changes.proofs.Making.{header, commit-makes}
 use Rattle.changes.proofs.commit_alteration.Statement.{statement}
 use Rattle.changes.proofs.commit_alteration.Tie as tie

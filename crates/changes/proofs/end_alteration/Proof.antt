@@ -1,9 +1,7 @@
 -- `end_alteration` meets its contract. Assumes nothing.
 use borrow.Author.Needs.{needs}
 use native.Mathlib.Omega.{arith}
-use mathlib.Core.Path.{_≡_, refl, sym, ap, _∙_}
-use Rattle.changes.proofs.Making.{header, update-low, end-makes}
-use Rattle.changes.proofs.Making.{banks-few}
+use Rattle.changes.proofs.Making.{header, banks-few, update-low, end-makes}
 use Rattle.changes.proofs.end_alteration.Statement.{statement}
 use Rattle.changes.proofs.end_alteration.Tie as tie
 

@@ -1,9 +1,8 @@
 -- `end_state` meets its contract. Assumes nothing.
 use borrow.Author.Needs.{needs}
 use native.Mathlib.Omega.{arith}
-use mathlib.Core.Path.{_≡_, refl, sym, ap, _∙_}
+use mathlib.Core.Path.{sym, _∙_}
 use Rattle.changes.proofs.Making.{header, sized}
-use Rattle.record.specs.Sized.{Sized}
 use Rattle.changes.proofs.end_state.Statement.{statement}
 use Rattle.changes.proofs.end_state.Tie as tie
 

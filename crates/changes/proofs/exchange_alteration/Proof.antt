@@ -1,7 +1,5 @@
 -- `exchange_alteration` meets its contract. Assumes nothing.
-use borrow.Author.Needs.{needs}
 use native.Mathlib.Omega.{arith}
-use mathlib.Core.Path.{_≡_, refl, sym, ap, _∙_}
 use Rattle.changes.proofs.Making.{header, exchange-makes}
 use Rattle.changes.proofs.exchange_alteration.Statement.{statement}
 use Rattle.changes.proofs.exchange_alteration.Tie as tie

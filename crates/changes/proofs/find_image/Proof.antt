@@ -1,17 +1,16 @@
 -- `find_image` meets its contract. The loop's invariant: no image below i has the type GUID. Assumes nothing.
 use borrow.Author.Needs.{needs}
 use native.Mathlib.Omega.{arith}
-use mathlib.Core.Path.{_≡_, refl, sym, ap, _∙_}
+use mathlib.Core.Path.{_≡_, sym, _∙_}
 use lib.ListN.{length}
 use mathlib.Core.List.{List}
-use lib.Dec.{eqb}
-use mathlib.Core.Bool.{Bool, true, false}
-use Prim.Native.Nat.{ℕ, _+_, _-_, _≤_, _<_}
-use Rattle.record.proofs.Sizes.{bank-in, guid-in, header-in}
+use mathlib.Core.Bool.{Bool}
+use Prim.Native.Nat.{ℕ, _-_, _≤_}
+use Rattle.record.proofs.Sizes.{guid-in}
 use lib.Seq.{take-all}
 use Rattle.record.specs.Every.{least}
 use Rattle.record.proofs.Below.{least-none, least-more, least-found}
-use Rattle.record.specs.Layout.{typeGuid, imageCount, entryAt}
+use Rattle.record.specs.Layout.{typeGuid, imageCount}
 use Rattle.fields.specs.Guid.{guid, same}
 use Rattle.changes.specs.NewRecord.{imageWith}
 use Rattle.changes.proofs.find_image.Statement.{statement}

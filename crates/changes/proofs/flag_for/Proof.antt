@@ -1,8 +1,5 @@
 -- `flag_for` meets its contract. Assumes nothing.
-use borrow.Author.Needs.{needs}
-use native.Mathlib.Omega.{arith}
-use mathlib.Core.Path.{_≡_, refl, sym, ap, _∙_}
-use borrow.Author.Tests.{le-leb, lt-leb, eq-eqb, ne-eqb}
+use borrow.Author.Tests.{eq-eqb, ne-eqb}
 use Rattle.changes.proofs.flag_for.Statement.{statement}
 use Rattle.changes.proofs.flag_for.Tie as tie
 

@@ -1,7 +1,6 @@
 -- `list_accept` meets its contract. Assumes nothing.
 use borrow.Author.Needs.{needs}
-use native.Mathlib.Omega.{arith}
-use mathlib.Core.Path.{_≡_, refl, sym, ap, _∙_}
+use mathlib.Core.Path.{sym}
 use Rattle.changes.proofs.Listing.{first-sound}
 use Rattle.changes.proofs.list_accept.Statement.{statement}
 use Rattle.changes.proofs.list_accept.Tie as tie

@@ -1,7 +1,6 @@
 -- `state_with` meets its contract. Assumes nothing.
 use borrow.Author.Needs.{needs}
-use native.Mathlib.Omega.{arith}
-use mathlib.Core.Path.{_≡_, refl, sym, ap, _∙_}
+use mathlib.Core.Path.{sym}
 use Rattle.changes.proofs.Setting.{state-is, state-other}
 use Rattle.changes.proofs.state_with.Statement.{statement}
 use Rattle.changes.proofs.state_with.Tie as tie

@@ -1,7 +1,5 @@
 -- `states_with` meets its contract. Assumes nothing.
 use borrow.Author.Needs.{needs}
-use native.Mathlib.Omega.{arith}
-use mathlib.Core.Path.{_≡_, refl, sym, ap, _∙_}
 use Rattle.fields.specs.Number.{le}
 use Rattle.changes.proofs.states_with.Statement.{statement}
 use Rattle.changes.proofs.states_with.Tie as tie

@@ -1,7 +1,7 @@
 -- `update_bank` meets its contract. Assumes nothing.
 use borrow.Author.Needs.{needs}
 use native.Mathlib.Omega.{arith}
-use mathlib.Core.Path.{_≡_, refl, sym, ap, _∙_}
+use mathlib.Core.Path.{refl}
 use Rattle.changes.proofs.Making.{header, banks-few, update-in}
 use Rattle.changes.proofs.update_bank.Statement.{statement}
 use Rattle.changes.proofs.update_bank.Tie as tie
