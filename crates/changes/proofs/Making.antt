@@ -15,7 +15,7 @@ use Rattle.record.proofs.Sizes.{header-in}
 use Rattle.record.proofs.Sound.{sound-sized, sound-named}
 use Rattle.alterations.specs.Fields.{setActive, setPrevious, setState, setAccepted, withCrc}
 use Rattle.alterations.specs.Altered.{alteredBy}
-use Rattle.changes.specs.NewRecord.{updateBankOf, begunRecord, committedRecord, endedRecord, marked, acceptedRecord, exchangedRecord}
+use Rattle.changes.specs.NewRecord.{updateBankOf, firstUnaccepted, begunRecord, committedRecord, endedRecord, marked, acceptedRecord, exchangedRecord}
 use Rattle.changes.specs.Makes.{Makes}
 use Rattle.changes.proofs.Words.{Bytes}
 use Rattle.changes.proofs.Setting.{active-kept, previous-kept, states-kept, words-order, states-put, flagged-first, flagged-one, flagged-none, accepted-state}
@@ -50,7 +50,7 @@ module _ (r : List ℕ) (e : sound r ≡ true) where
     kept : (w : ℕ) → put (setPrevious (previous r) (setActive (active r) r)) 24 (bytes 4 w) ≡ put r 24 (bytes 4 w)
     kept w = rw (active-kept r header bs, previous-kept r header bs)
 
-    pub begin-makes :
+    pub begin-makes : (n : ℕ) → n ≡ imageCount r →
         Makes
         (record {
           active = active r;
@@ -58,16 +58,17 @@ module _ (r : List ℕ) (e : sound r ≡ true) where
           states = le 4 (setState (updateBankOf r) invalid r) 24;
           bank = updateBankOf r;
           first = 0;
-          count = imageCount r;
+          count = n;
           flag = 0;
         })
         r (begunRecord r)
     unfolding begunRecord alteredBy
-    begin-makes = record {
+    begin-makes n q = record {
       new-is =
           ap withCrc
           (rw (kept (le 4 (setState (updateBankOf r) invalid r) 24), states-put r header (updateBankOf r) invalid update-low bs (omega arith))
-          (flagged-first (imageCount r) (updateBankOf r) (setState (updateBankOf r) invalid r)));
+          (flagged-first n (updateBankOf r) (setState (updateBankOf r) invalid r)
+          ∙ ap (λ (k : ℕ). firstUnaccepted k (updateBankOf r) (setState (updateBankOf r) invalid r)) q));
       within = record { bank = update-in; images = omega arith };
     }
 

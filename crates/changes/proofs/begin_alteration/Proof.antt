@@ -34,8 +34,8 @@ returns c =
     let u = n .before in
     let k = u .before in
     let s = k .before in
-    rw (a .read32 .ensures, p .read322 .ensures, c .states-with .ensures, u .update-bank .ensures .0, n .read16 .ensures)
-    (begin-makes (s .args .r .now) (s .pre) (λ i. k .shared-slice-known .given i .fits))
+    rw (a .read32 .ensures, p .read322 .ensures, c .states-with .ensures, u .update-bank .ensures .0)
+    (begin-makes (s .args .r .now) (s .pre) (λ i. k .shared-slice-known .given i .fits) (n .read16 .result) (n .read16 .ensures))
 
 pub begin-alteration-spec : {M : Type 1} → statement M
 begin-alteration-spec =
