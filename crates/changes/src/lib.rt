@@ -218,6 +218,7 @@ fn exchange_alteration(r: &[u8]) -> Alteration
     }
 }
 
+// Stands in for crate alterations' function of that name, whose contract this is; it has no proof and goes when that one is there.
 fn list_change(area: &[u8], x: Alteration, out: &mut [u32]) -> usize
     requires { ⌜ Changeable (now area) (now out) × Within x (recordOf (copy0 (now area))) ⌝ }
     ensures { λ n. ⌜ Listed n (changeStores (now (area .entry)) (withCrc (alteredBy x (recordOf (copy0 (now (area .entry))))))) (now (out .entry)) (now (out .exit)) ⌝ }
