@@ -1,6 +1,7 @@
 // What each call alters in the record (document 01, "Session and calls"), and the list of its stores. A record is a slice of the
 // area's own bytes; nothing is copied.
 use alterations::Alteration;
+use alterations::list_change;
 use copies::COPY;
 use entries::all_accepted;
 use fields::read16;
@@ -17,8 +18,8 @@ ghost use Rattle.fields.specs.Number.{le};
 ghost use Rattle.record.specs.Layout.{active, accepted, state, bankCount, imageCount, recordOf, copy0};
 ghost use Rattle.record.specs.Rules.{acceptedBank, valid, allAccepted, sound};
 ghost use Rattle.record.specs.Sized.{Sized};
-ghost use Rattle.alterations.specs.Fields.{setState, setAccepted, withCrc};
-ghost use Rattle.alterations.specs.Altered.{alteredBy, Within, Changeable, Listed};
+ghost use Rattle.alterations.specs.Fields.{setState, setAccepted};
+ghost use Rattle.alterations.specs.Altered.{Changeable, Listed};
 ghost use Rattle.alterations.specs.ChangeStores.{changeStores};
 ghost use Rattle.changes.specs.NewRecord.{updateBankOf, imageWith, begunRecord, committedRecord, endedRecord, marked, acceptedRecord, exchangedRecord};
 ghost use Rattle.changes.specs.Makes.{Makes};
@@ -216,14 +217,6 @@ fn exchange_alteration(r: &[u8]) -> Alteration
         count: 0,
         flag: 0,
     }
-}
-
-// Stands in for crate alterations' function of that name, whose contract this is; it has no proof and goes when that one is there.
-fn list_change(area: &[u8], x: Alteration, out: &mut [u32]) -> usize
-    requires { ⌜ Changeable (now area) (now out) × Within x (recordOf (copy0 (now area))) ⌝ }
-    ensures { λ n. ⌜ Listed n (changeStores (now (area .entry)) (withCrc (alteredBy x (recordOf (copy0 (now (area .entry))))))) (now (out .entry)) (now (out .exit)) ⌝ }
-{
-    0
 }
 
 // The stores of Begin.
