@@ -1,12 +1,14 @@
--- Laws of a test at every number below a limit. Assumes nothing.
+-- Laws of a test at every number below a limit, and of the least number at which it holds. Assumes nothing.
 use mathlib.Core.Path.{_≡_, refl, sym, ap, _∙_}
-use mathlib.Core.Bool.{Bool, true, false, _&&_, and-false}
+use mathlib.Core.Bool.{Bool, true, false, cond, _&&_, and-false}
 use mathlib.Core.Logic.{⊎-elim}
 use Prim.Native.Nat.{ℕ, zero, suc, _+_, _≤_, _<_}
 use native.Mathlib.Numerals.{add-one}
 use native.Mathlib.Omega.{arith}
+use borrow.Author.Tests.{le-ltb, lt-ltb}
+use lib.Dec.{ltb}
 use Rattle.fields.proofs.Tests.{both, le-or-lt}
-use Rattle.record.specs.Every.{below}
+use Rattle.record.specs.Every.{below, least}
 
 pub below-none : (test : ℕ → Bool) → below 0 test ≡ true
 unfolding below
@@ -40,3 +42,25 @@ below-each test zero i e h = absurd (omega arith)
 below-each test (suc n) i e h =
     let p = both (below n test) (test n) e in
     ⊎-elim (λ le. let z : i ≡ n = omega arith in rw z (p .1)) (λ lt. below-each test n i (p .0) lt) (le-or-lt n i)
+
+-- ---- the least: none below 0, none below i + 1, and the one after none
+pub least-none : (test : ℕ → Bool) → least 0 test ≡ 0
+unfolding least
+least-none test = refl
+
+pub least-more : (test : ℕ → Bool) (i : ℕ) → least i test ≡ i → test i ≡ false → least (i + 1) test ≡ i + 1
+unfolding least
+least-more test i p q = rw (add-one, p, le-ltb i i (omega arith), q)
+
+pub least-found : (test : ℕ → Bool) (n i : ℕ) → i < n → least i test ≡ i → test i ≡ true → least n test ≡ i
+unfolding least
+least-found test zero i h p q = absurd (omega arith)
+least-found test (suc n) i h p q =
+    ⊎-elim
+    (λ le.
+    let z : i ≡ n = omega arith in
+    let e : least n test ≡ n = rw z at p in
+    let f : test n ≡ true = rw z at q in
+    rw (e, le-ltb n n (omega arith), f) (sym z))
+    (λ lt. rw (least-found test n i lt p q, lt-ltb i n lt))
+    (le-or-lt n i)
