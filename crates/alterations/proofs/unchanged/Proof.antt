@@ -5,6 +5,7 @@ use native.Mathlib.Omega.{arith}
 use borrow.Author.Needs.{needs}
 use lib.ListN.{length}
 use Rattle.fields.specs.Number.{le}
+use Rattle.fields.proofs.Bytes.{Bytes}
 use Rattle.record.specs.Layout.{imageCount}
 use Rattle.record.proofs.Sizes.{in-words, record-high}
 use Rattle.alterations.specs.Altered.{newRecord}
@@ -105,9 +106,9 @@ returns-3 c =
     let k = l .before .before .before in
     let s = k .before in
     let a = s .args in
-    let bytes = λ (j : ℕ). k .shared-slice-known .given j .fits in
+    let small : Bytes (a .r .now) = λ j. k .shared-slice-known .given j .fits in
     let w = in-words (a .r .now) (a .banks) (imageCount (a .r .now)) (s .pre .0 .sized) in
-    agree-all (a .r .now) (newRecord (a .x) (a .r .now)) (l .loop .o) bytes (new-bytes (a .x) (a .r .now) (a .banks) (s .pre .0) bytes)
+    agree-all (a .r .now) (newRecord (a .x) (a .r .now)) (l .loop .o) small (new-bytes (a .x) (a .r .now) (a .banks) (s .pre .0) small)
     (sym (new-length (a .x) (a .r .now) (a .banks) (s .pre .0))) (omega (arith, w)) (c .loop-test .left) (l .loop .inv .3)
 
 pub unchanged-spec : {M : Type 1} → statement M
