@@ -107,7 +107,15 @@ fn unchanged(r: &[u8], banks: usize, x: Alteration, crc: u32) -> bool
 }
 
 // The new record's words from 8 on where the copy c holds another.
-fn put_new_words(c: &[u8], r: &[u8], banks: usize, x: Alteration, base: u32, out: &mut [u32], k: usize) -> usize
+fn put_new_words(
+    c: &[u8],
+    r: &[u8],
+    banks: usize,
+    x: Alteration,
+    base: u32,
+    out: &mut [u32],
+    k: usize,
+) -> usize
     requires { ⌜ Alterable x (now r) banks × Listable (now c) (now r) base k (length (now out) + 4) ⌝ }
     ensures { λ n. ⌜ Added k n (stored base (now (c .entry)) (newRecord x (now (r .entry))) (offsets 8 (length (now (r .entry)) / 4 - 2))) (now (out .entry)) (now (out .exit)) × (n ≤ k + (length (now (r .entry)) / 4 - 2)) ⌝ }
 {
@@ -121,7 +129,16 @@ fn put_new_words(c: &[u8], r: &[u8], banks: usize, x: Alteration, base: u32, out
 }
 
 // Lists the stores that put the new record into the copy c, which stands at base in the area, behind the k pairs that out has.
-fn put_change(c: &[u8], r: &[u8], banks: usize, x: Alteration, crc: u32, base: u32, out: &mut [u32], k: usize) -> usize
+fn put_change(
+    c: &[u8],
+    r: &[u8],
+    banks: usize,
+    x: Alteration,
+    crc: u32,
+    base: u32,
+    out: &mut [u32],
+    k: usize,
+) -> usize
     requires { ⌜ Alterable x (now r) banks × (crc ≡ crc32Of (drop versionAt (alteredBy x (now r)))) × Listable (now c) (now r) base k (length (now out)) ⌝ }
     ensures { λ n. ⌜ Added k n (plan base (now (c .entry)) (newRecord x (now (r .entry)))) (now (out .entry)) (now (out .exit)) × (n ≤ k + length (now (r .entry)) / 4 + 1) ⌝ }
 {

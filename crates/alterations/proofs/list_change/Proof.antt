@@ -85,8 +85,7 @@ put-change-requires c κs =
     let a = s .args in
     let A = a .area .now in
     let R = rd .record-in .result .now in
-    let e : R ≡ recordOf (copy0 A) = rd .record-in .ensures in
-    (
+    let e : R ≡ recordOf (copy0 A) = rd .record-in .ensures in (
       alterable (a .x) A (a .out .now) R e (s .pre .0) (s .pre .1),
       n .new-crc .ensures,
       listable (a .x) A (a .out .now) R e (s .pre .0) (s .pre .1) (copy0 A) 0 0 (length (a .out .now)) (length-take-le 8192 A (omega (arith, s .pre .0 .long))) (omega arith) (omega arith) (s .pre .0 .room),
