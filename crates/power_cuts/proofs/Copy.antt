@@ -12,7 +12,7 @@ use Rattle.fields.proofs.Guid.{same-true}
 use Rattle.record.specs.Layout.{versionAt}
 use Rattle.power_cuts.specs.Area.{Bytes, afterStores, afterCut}
 use Rattle.power_cuts.specs.Format.{Format, FormatLaws, Writer, WriterLaws, Writable, recordOf, soundCopy, over, Inside}
-use Rattle.power_cuts.proofs.Words.{take-bytes}
+use Rattle.fields.proofs.Bytes.{take-bytes}
 
 -- the copy is sound and holds the record r
 pub record Holds (F : Format) (r c : List ℕ) : Type 0 where

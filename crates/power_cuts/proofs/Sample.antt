@@ -18,7 +18,7 @@ use Rattle.record.specs.Rules as rule
 use Rattle.copies.specs.Copies.{soundAndEqual}
 use Rattle.power_cuts.specs.Area.{Bytes}
 use Rattle.power_cuts.specs.Version2.{version2}
-use Rattle.power_cuts.proofs.Words.{append-bytes}
+use Rattle.fields.proofs.Bytes.{append-bytes}
 use Rattle.power_cuts.proofs.Copy.{Holds, starts-holds}
 use Rattle.power_cuts.proofs.Parts.{Parts, settled-both}
 use Rattle.power_cuts.proofs.Version2.{version2-laws, of-both}
