@@ -12,7 +12,7 @@ use lib.ListN.{length, take, drop, set, length-set, length-append, length-drop}
 use lib.Seq.{sets-eq, take-at, drop-at, drop-drop}
 use Rattle.fields.specs.Number.{le}
 use Rattle.stores.specs.Stores.{Store, store, shift, offsets, otherWords, differing, writes, plan, numbersOf, withList}
-use Rattle.stores.specs.Added.{Added, stored}
+use Rattle.stores.specs.Added.{Added, wordStore, stored}
 
 pub length-numbersOf : (ss : List Store) → length (numbersOf ss) ≡ 2 * length ss
 unfolding numbersOf
@@ -93,14 +93,22 @@ module _ (c r : List ℕ) where
   pub stored-append : (base : ℕ) (xs ys : List ℕ) → stored base c r (xs ++ ys) ≡ stored base c r xs ++ stored base c r ys
   stored-append base xs ys = rw (differing-append xs ys, map-append, map-append)
 
--- one offset
-pub stored-equal : (base : ℕ) (c r : List ℕ) (o : ℕ) → le 4 c o ≡ le 4 r o → stored base c r (o ∷ []) ≡ []
-unfolding differing
-stored-equal base c r o e = rw (eq-eqb (le 4 c o) (le 4 r o) e)
+-- one word, and one offset
+pub word-equal : (base o old w : ℕ) → old ≡ w → wordStore base o old w ≡ []
+unfolding wordStore
+word-equal base o old w e = rw (eq-eqb old w e)
 
-pub stored-differs : (base : ℕ) (c r : List ℕ) (o : ℕ) → (le 4 c o ≡ le 4 r o → ⊥) → stored base c r (o ∷ []) ≡ ((base + o, le 4 r o) ∷ [])
-unfolding differing
-stored-differs base c r o e = rw (ne-eqb (le 4 c o) (le 4 r o) e)
+pub word-differs : (base o old w : ℕ) → (old ≡ w → ⊥) → wordStore base o old w ≡ ((base + o, w) ∷ [])
+unfolding wordStore
+word-differs base o old w e = rw (ne-eqb old w e)
+
+pub stored-one : (base : ℕ) (c r : List ℕ) (o : ℕ) → wordStore base o (le 4 c o) (le 4 r o) ≡ stored base c r (o ∷ [])
+unfolding wordStore differing
+stored-one base c r o = go (eqb (le 4 c o) (le 4 r o))
+  where
+    go : (b : Bool) → cond {A = List Store} b [] ((base + o, le 4 r o) ∷ []) ≡ map (shift base) (map (store r) (cond b [] (o ∷ [])))
+    go true = refl
+    go false = refl
 
 offsets-snoc : (o n : ℕ) → offsets o (suc n) ≡ offsets o n ++ ((o + 4 * n) ∷ [])
 unfolding offsets

@@ -1,7 +1,9 @@
 -- What the functions that list stores ask and answer, one step at a time. Nothing here is needed to read an entry's promise. Assumes nothing.
 use Prim.Native.Nat.{ℕ, _+_, _*_, _/_, _≤_}
-use mathlib.Core.List.{List, _++_, map}
+use mathlib.Core.Bool.{cond}
+use mathlib.Core.List.{List, [], _∷_, _++_, map}
 use mathlib.Core.Path.{_≡_}
+use lib.Dec.{eqb}
 use lib.ListN.{length}
 use Rattle.stores.specs.Stores.{Store, store, shift, differing, withList}
 
@@ -10,6 +12,10 @@ pub record Added (k n : ℕ) (ts : List Store) (out new : List ℕ) : Type 0 whe
   pub count : n ≡ k + length ts
   pub kept : length new ≡ length out
   pub adds : (d : List ℕ) (ss : List Store) → length ss ≡ k → length d ≡ length out → out ≡ withList d ss → new ≡ withList d (ss ++ ts)
+
+-- the store of the word w at o, where another than that stood
+unfoldable pub wordStore : (base o old w : ℕ) → List Store
+wordStore base o old w = cond (eqb old w) [] ((base + o, w) ∷ [])
 
 -- the stores at those of the offsets at which the copy differs
 abbrev pub stored : ℕ → List ℕ → List ℕ → List ℕ → List Store

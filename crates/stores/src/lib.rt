@@ -6,13 +6,13 @@ ghost use mathlib.Core.List.{[], _∷_};
 ghost use Prim.Native.Nat.{_+_, _*_, _-_, _/_, _≤_};
 ghost use lib.ListN.{length};
 ghost use Rattle.stores.specs.Stores.{offsets, plan};
-ghost use Rattle.stores.specs.Added.{Added, stored, Listable};
+ghost use Rattle.stores.specs.Added.{Added, wordStore, stored, Listable};
 
 // How many numbers a store slice must hold: 2,100 pairs.
 pub const STORE_NUMBERS: usize = 4200;
 
 // One pair more, behind k pairs.
-fn put_pair(out: &mut [u32], k: usize, o: u32, w: u32) -> usize
+pub fn put_pair(out: &mut [u32], k: usize, o: u32, w: u32) -> usize
     requires { ⌜ 2 * k + 2 ≤ length (now out) ⌝ }
     ensures { λ n. ⌜ Added k n ((o, w) ∷ []) (now (out .entry)) (now (out .exit)) ⌝ }
 {
@@ -21,13 +21,12 @@ fn put_pair(out: &mut [u32], k: usize, o: u32, w: u32) -> usize
     k + 1
 }
 
-// The record's word at o, if the copy holds another there.
-fn put_differing(c: &[u8], r: &[u8], base: u32, out: &mut [u32], k: usize, o: usize) -> usize
-    requires { ⌜ (o + 4 ≤ length (now c)) × (o + 4 ≤ length (now r)) × (o ≤ 8192) × (base ≤ 8192) × (2 * k + 2 ≤ length (now out)) ⌝ }
-    ensures { λ n. ⌜ Added k n (stored base (now (c .entry)) (now (r .entry)) (o ∷ [])) (now (out .entry)) (now (out .exit)) × (n ≤ k + 1) ⌝ }
+// The word w at o, if the copy holds another there, which is `old`.
+pub fn put_differing(old: u32, w: u32, base: u32, out: &mut [u32], k: usize, o: usize) -> usize
+    requires { ⌜ (o ≤ 8192) × (base ≤ 8192) × (2 * k + 2 ≤ length (now out)) ⌝ }
+    ensures { λ n. ⌜ Added k n (wordStore base o old w) (now (out .entry)) (now (out .exit)) × (n ≤ k + 1) ⌝ }
 {
-    let w = read32(r, o);
-    if read32(c, o) == w {
+    if old == w {
         return k;
     }
     put_pair(out, k, base + o as u32, w)
@@ -41,7 +40,7 @@ fn put_words(c: &[u8], r: &[u8], base: u32, out: &mut [u32], k: usize) -> usize
     let mut j = k;
     let mut o = 8;
     while o < r.len() {
-        j = put_differing(c, r, base, out, j, o);
+        j = put_differing(read32(c, o), read32(r, o), base, out, j, o);
         o += 4;
     }
     j
@@ -53,7 +52,7 @@ pub fn list_copy(c: &[u8], r: &[u8], base: u32, out: &mut [u32], k: usize) -> us
     ensures { λ n. ⌜ Added k n (plan base (now (c .entry)) (now (r .entry))) (now (out .entry)) (now (out .exit)) ⌝ }
 {
     let first = put_pair(out, k, base + 4, 0);
-    let second = put_differing(c, r, base, out, first, 0);
+    let second = put_differing(read32(c, 0), read32(r, 0), base, out, first, 0);
     let third = put_words(c, r, base, out, second);
     put_pair(out, third, base + 4, read32(r, 4))
 }

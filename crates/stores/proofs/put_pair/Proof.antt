@@ -3,7 +3,7 @@ use lib.ListN.{length-set}
 use mathlib.Core.Path.{_≡_, refl, sym, ap, _∙_}
 use native.Mathlib.Omega.{arith}
 use borrow.Author.Needs.{needs}
-use Rattle.stores.proofs.Laid.{added-none, added-one, added-then, added-more, stored-equal, stored-differs, offsets-none, plan-parts}
+use Rattle.stores.proofs.Laid.{added-one}
 use Rattle.stores.proofs.put_pair.Statement.{statement}
 use Rattle.stores.proofs.put_pair.Tie as tie
 

@@ -5,7 +5,7 @@ use mathlib.Core.List.{List, [], _∷_, _++_}
 use mathlib.Core.Path.{_≡_, refl, sym, ap, _∙_}
 use native.Mathlib.Omega.{arith}
 use borrow.Author.Needs.{needs}
-use Rattle.stores.proofs.Laid.{added-none, added-one, added-then, added-more, stored-equal, stored-differs, offsets-none, plan-parts}
+use Rattle.stores.proofs.Laid.{added-none, added-more, stored-one, offsets-none}
 use Rattle.stores.specs.Added.{Added, stored, Listable}
 use Rattle.stores.specs.Stores.{offsets, plan}
 use Rattle.stores.proofs.put_words.Statement.{statement}
@@ -25,16 +25,28 @@ loop-holds c =
     let a = s .args in
     (omega arith, omega arith, s .pre .low, refl, rw (offsets-none (a .c .now) (a .r .now) (a .base)) (added-none (a .k) (a .out .now)), omega arith)
 
+read32-requires : tie.Need-read32-requires Inv-loop μ-loop
+read32-requires c κs =
+    let p = c .before .before .before .before .before .pre in
+    omega (arith, p .inside, p .words, c .before .loop .inv .1)
+
+read32-requires-2 : tie.Need-read32-requires-2 Inv-loop μ-loop
+read32-requires-2 c κs =
+    let p = c .before .before .before .before .before .before .pre in
+    omega (arith, p .words, c .before .before .loop .inv .1)
+
 put-differing-requires : tie.Need-put-differing-requires Inv-loop μ-loop
 put-differing-requires c κs =
-    let l = c .before .before in
+    let l = c .before .before .before .before in
     let p = l .before .before .before .before .pre in
     let i = l .loop .inv in
-    let t = c .before .loop-test .taken in
-    (omega (arith, p .inside, p .words), omega (arith, p .words), omega (arith, p .high), p .at, omega (arith, p .fits, p .words))
+    let t = c .before .before .before .loop-test .taken in
+    (omega (arith, p .high), p .at, omega (arith, p .fits, p .words))
 
 add-o : tie.Need-add-o Inv-loop μ-loop
-add-o c = omega (arith, c .before .before .before .before .before .before .before .before .before .pre .high)
+add-o c =
+    let l = c .before .before .before .before .before .before .before in
+    omega (arith, l .before .before .before .before .pre .high)
 
 loop-less : tie.Need-loop-less Inv-loop μ-loop
 loop-less c = search needs
@@ -42,18 +54,21 @@ loop-less c = search needs
 loop-again : tie.Need-loop-again Inv-loop μ-loop
 loop-again c =
     let q = c .before .before in
-    let l = q .before .before .before in
+    let y = q .before .before in
+    let l = y .before .before .before in
     let s = l .before .before .before .before in
     let a = s .args in
     let i = l .loop .inv in
+    let new = q .put-differing .last .1 .1 .1 .0 in
     let e = q .put-differing .ensures in
-    let t = q .before .before .loop-test .taken in (
+    let t = y .before .before .loop-test .taken in
+    let one : Added (l .loop .j) (q .put-differing .result) (stored (a .base) (a .c .now) (a .r .now) (l .loop .o ∷ [])) (l .loop .out) new =
+    rw (← stored-one (a .base) (a .c .now) (a .r .now) (l .loop .o), ← y .before .read32 .ensures, ← y .read322 .ensures) (e .0) in (
       omega arith,
       omega arith,
       omega (arith, s .pre .words),
       e .0 .kept ∙ i .3,
-      added-more (a .base) (a .c .now) (a .r .now) (a .k) (l .loop .j) (q .put-differing .result) (l .loop .o) (a .out .now) (l .loop .out) (q .put-differing .last .1 .1 .1 .0)
-          (i .0) (i .1) (i .4) (e .0),
+      added-more (a .base) (a .c .now) (a .r .now) (a .k) (l .loop .j) (q .put-differing .result) (l .loop .o) (a .out .now) (l .loop .out) new (i .0) (i .1) (i .4) one,
       omega arith,
     )
 
@@ -76,6 +91,8 @@ put-words-spec =
     Inv-loop
     μ-loop
     loop-holds
+    read32-requires
+    read32-requires-2
     put-differing-requires
     add-o
     loop-less
