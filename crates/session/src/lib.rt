@@ -232,7 +232,14 @@ fn image_of(r: &[u8], guid: &[u8]) -> usize
 }
 
 // Commit's stores, or 26; "it joins the set".
-fn commit_image(bank: u32, set: u32, area: &[u8], guid: &[u8], request: u32, out: &mut [u32]) -> Answer
+fn commit_image(
+    bank: u32,
+    set: u32,
+    area: &[u8],
+    guid: &[u8],
+    request: u32,
+    out: &mut [u32],
+) -> Answer
     requires { ⌜ Changeable (now area) (now out) × (length (now guid) ≡ 16) ⌝ }
     ensures { λ r. ⌜ (outcomeOf r, now (out .exit)) ≡ commitLine (Staging bank set) (now (guid .entry)) request (now (area .entry)) (now (out .entry)) ⌝ }
 {
@@ -263,7 +270,10 @@ fn end_update(bank: u32, set: u32, area: &[u8], out: &mut [u32]) -> Answer
 {
     let count = missing_images(record_in(&area[0..COPY]), set);
     if count != 0 {
-        return Answer::refused(Session::Staging { bank, set }, Refusal::ImagesMissing(count));
+        return Answer::refused(
+            Session::Staging { bank, set },
+            Refusal::ImagesMissing(count),
+        );
     }
     let n = list_end(area, out);
     Answer::accepted(Session::Restart, n)
