@@ -2,3 +2,4 @@
 pub mod Bits
 pub mod Admission
 pub mod Lines
+pub mod CallLaws
