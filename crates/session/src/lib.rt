@@ -1,7 +1,33 @@
-// The session and the answer of start-up, repair and the calls (document 01, "Session and calls").
+// The session, the answer of start-up, repair and the calls, and the six calls (document 01, "Session and calls"). Each call tests in the
+// order of "When the bench says no", 20, 23, 21, 22, 24 and then its own line's 25, 26 and 27; a refusal hands the session back as it
+// was, with no list.
+use copies::AREA;
+use copies::COPY;
+use copies::Source;
+use copies::read_source;
+use copies::records_equal;
+use fields::read16;
+use fields::read32;
+use record::record_in;
 use refusals::Refusal;
+use soundness::sound_copy;
+use stores::STORE_NUMBERS;
 ghost use mathlib.Core.Path.{_≡_};
-ghost use Rattle.session.specs.Outcome.{outcomeOf, refusedWith, acceptedWith};
+ghost use mathlib.Core.Bool.{true};
+ghost use Prim.Native.Nat.{_<_, _^_};
+ghost use lib.ListN.{length};
+ghost use Rattle.record.specs.Layout.{recordOf, copy0, active, imageCount};
+ghost use Rattle.record.specs.Rules.{sound, allAccepted};
+ghost use Rattle.record.specs.Sized.{Sized};
+ghost use Rattle.copies.specs.Copies.{sourceOf, soundAndEqual};
+ghost use Rattle.copies.specs.declared.Source.the-variants.{Copy0};
+ghost use Rattle.alterations.specs.Altered.{Changeable, Listed};
+ghost use Rattle.alterations.specs.ChangeStores.{changeStores};
+ghost use Rattle.changes.specs.NewRecord.{updateBankOf, imageWith, marked, begunRecord, committedRecord, endedRecord, acceptedRecord, exchangedRecord};
+ghost use Rattle.session.specs.declared.Session.the-variants.{Staging, Trial};
+ghost use Rattle.session.specs.Outcome.{decisionOf, outcomeOf, refusedWith, acceptedWith};
+ghost use Rattle.session.specs.Calls.{held, changedTo, stagingFits, admission, missing, afterAccept, selected, beginLine, commitLine, endLine, cancelLine, acceptLine, selectPreviousLine, beginCall, commitCall, endCall, cancelCall, acceptCall, selectPreviousCall};
+ghost use Rattle.session.specs.Admitted.{Admitted, equalAdmission};
 
 // "Five session states: Regular, Staging, Trial, Fallback, Restart. Staging carries its bank and a 32-bit set of committed
 // images."
@@ -46,6 +72,406 @@ impl Answer {
             session,
             verdict: Verdict::Accepted,
             stores,
+        }
+    }
+}
+
+// ---- STUBS: these are crate changes' functions, to be replaced by `use changes::..` ----
+
+fn find_image(r: &[u8], banks: usize, images: usize, guid: &[u8]) -> usize
+    requires { ⌜ Sized (now r) banks images × (length (now guid) ≡ 16) ⌝ }
+    ensures { λ i. ⌜ i ≡ imageWith (now (guid .entry)) (now (r .entry)) ⌝ }
+{
+    0
+}
+
+fn all_accepted_with(r: &[u8], banks: usize, images: usize, b: usize, i: usize) -> bool
+    requires { ⌜ Sized (now r) banks images × (b < banks) × (i < images) × (b ≡ active (now r)) ⌝ }
+    ensures { λ x. ⌜ x ≡ allAccepted (marked i (now (r .entry))) (active (now (r .entry))) ⌝ }
+{
+    true
+}
+
+fn list_begin(area: &[u8], out: &mut [u32]) -> usize
+    requires { ⌜ Changeable (now area) (now out) ⌝ }
+    ensures { λ n. ⌜ Listed n (changeStores (now (area .entry)) (begunRecord (recordOf (copy0 (now (area .entry)))))) (now (out .entry)) (now (out .exit)) ⌝ }
+{
+    0
+}
+
+fn list_commit(area: &[u8], i: usize, request: u32, out: &mut [u32]) -> usize
+    requires { ⌜ Changeable (now area) (now out) × (i < imageCount (recordOf (copy0 (now area)))) ⌝ }
+    ensures { λ n. ⌜ Listed n (changeStores (now (area .entry)) (committedRecord i request (recordOf (copy0 (now (area .entry)))))) (now (out .entry)) (now (out .exit)) ⌝ }
+{
+    0
+}
+
+fn list_end(area: &[u8], out: &mut [u32]) -> usize
+    requires { ⌜ Changeable (now area) (now out) ⌝ }
+    ensures { λ n. ⌜ Listed n (changeStores (now (area .entry)) (endedRecord (recordOf (copy0 (now (area .entry)))))) (now (out .entry)) (now (out .exit)) ⌝ }
+{
+    0
+}
+
+fn list_accept(area: &[u8], i: usize, out: &mut [u32]) -> usize
+    requires { ⌜ Changeable (now area) (now out) × (i < imageCount (recordOf (copy0 (now area)))) ⌝ }
+    ensures { λ n. ⌜ Listed n (changeStores (now (area .entry)) (acceptedRecord i (recordOf (copy0 (now (area .entry)))))) (now (out .entry)) (now (out .exit)) ⌝ }
+{
+    0
+}
+
+fn list_exchange(area: &[u8], out: &mut [u32]) -> usize
+    requires { ⌜ Changeable (now area) (now out) ⌝ }
+    ensures { λ n. ⌜ Listed n (changeStores (now (area .entry)) (exchangedRecord (recordOf (copy0 (now (area .entry)))))) (now (out .entry)) (now (out .exit)) ⌝ }
+{
+    0
+}
+
+// ---- end of the stubs ----
+
+// "the update bank is (active + 1) mod banks"
+fn update_bank(r: &[u8]) -> u32
+    requires { ⌜ sound (now r) ≡ true ⌝ }
+    ensures { λ b. ⌜ b ≡ updateBankOf (now (r .entry)) ⌝ }
+{
+    let banks = r[32] as u32;
+    (read32(r, 8) + 1) % banks
+}
+
+// 24, of a Staging session. The bank is looked up only where it is the update bank: a session may name any number.
+fn staged(r: &[u8], bank: u32, set: u32) -> bool
+    requires { ⌜ sound (now r) ≡ true ⌝ }
+    ensures { λ b. ⌜ b ≡ stagingFits (Staging bank set) (now (r .entry)) ⌝ }
+{
+    if bank != update_bank(r) {
+        return false;
+    }
+    let at = 24 + bank as usize;
+    if r[at] != 255 {
+        return false;
+    }
+    let images = read16(r, 34) as u32;
+    (set as u64) < (1u64 << images)
+}
+
+// 24, of any session.
+fn staging_fits(session: Session, r: &[u8]) -> bool
+    requires { ⌜ sound (now r) ≡ true ⌝ }
+    ensures { λ b. ⌜ b ≡ stagingFits session (now (r .entry)) ⌝ }
+{
+    match session {
+        Session::Staging { bank, set } => staged(r, bank, set),
+        Session::Regular => true,
+        Session::Trial => true,
+        Session::Fallback => true,
+        Session::Restart => true,
+    }
+}
+
+// Whether copy 1 is sound too, and its record the same as that of copy 0, which is sound.
+fn second_agrees(area: &[u8]) -> bool
+    requires { ⌜ (length (now area) ≡ 16384) × (sourceOf (now area) ≡ Copy0) ⌝ }
+    ensures { λ b. ⌜ b ≡ soundAndEqual (now (area .entry)) ⌝ }
+{
+    if sound_copy(&area[COPY..AREA]) {
+        return records_equal(area);
+    }
+    false
+}
+
+// 22 and 24, where copy 0 is sound.
+fn admit_first(session: Session, area: &[u8]) -> Verdict
+    requires { ⌜ (length (now area) ≡ 16384) × (sourceOf (now area) ≡ Copy0) ⌝ }
+    ensures { λ v. ⌜ decisionOf v ≡ equalAdmission session (now (area .entry)) ⌝ }
+{
+    if !second_agrees(area) {
+        return Verdict::Refused(Refusal::CopiesDiffer);
+    }
+    if !staging_fits(session, record_in(&area[0..COPY])) {
+        return Verdict::Refused(Refusal::StagingFault);
+    }
+    Verdict::Accepted
+}
+
+// 20, 23, 21, 22 and 24, in that order: what is tested before a call looks at its own line.
+fn admit(session: Session, area: &[u8], numbers: usize) -> Verdict
+    ensures { λ v. ⌜ decisionOf v ≡ admission session (now (area .entry)) numbers ⌝ }
+{
+    if area.len() != AREA {
+        return Verdict::Refused(Refusal::AreaLength);
+    }
+    if numbers < STORE_NUMBERS {
+        return Verdict::Refused(Refusal::StoreSlice);
+    }
+    let from = read_source(area);
+    match from {
+        Source::Copy0 => admit_first(session, area),
+        Source::Copy1 => Verdict::Refused(Refusal::CopiesDiffer),
+        Source::Neither => Verdict::Refused(Refusal::NoSoundCopy),
+    }
+}
+
+// Begin's stores; "the set is empty".
+fn begin_update(area: &[u8], out: &mut [u32]) -> Answer
+    requires { ⌜ Changeable (now area) (now out) ⌝ }
+    ensures { λ r. ⌜ (outcomeOf r, now (out .exit)) ≡ changedTo (Staging (updateBankOf (held (now (area .entry)))) 0) (now (area .entry)) (begunRecord (held (now (area .entry)))) (now (out .entry)) ⌝ }
+{
+    let bank = update_bank(record_in(&area[0..COPY]));
+    let n = list_begin(area, out);
+    Answer::accepted(Session::Staging { bank, set: 0 }, n)
+}
+
+// The image with that type GUID, or the image count.
+fn image_of(r: &[u8], guid: &[u8]) -> usize
+    requires { ⌜ (sound (now r) ≡ true) × (length (now guid) ≡ 16) ⌝ }
+    ensures { λ i. ⌜ i ≡ imageWith (now (guid .entry)) (now (r .entry)) ⌝ }
+{
+    let banks = r[32] as usize;
+    let images = read16(r, 34) as usize;
+    find_image(r, banks, images, guid)
+}
+
+// Commit's stores, or 26; "it joins the set".
+fn commit_image(
+    bank: u32,
+    set: u32,
+    area: &[u8],
+    guid: &[u8],
+    request: u32,
+    out: &mut [u32],
+) -> Answer
+    requires { ⌜ Changeable (now area) (now out) × (length (now guid) ≡ 16) ⌝ }
+    ensures { λ r. ⌜ (outcomeOf r, now (out .exit)) ≡ commitLine (Staging bank set) (now (guid .entry)) request (now (area .entry)) (now (out .entry)) ⌝ }
+{
+    let r = record_in(&area[0..COPY]);
+    let images = read16(r, 34) as usize;
+    let i = image_of(r, guid);
+    if images <= i {
+        return Answer::refused(Session::Staging { bank, set }, Refusal::NoImage);
+    }
+    let joined = set | (1u32 << (i as u32));
+    let n = list_commit(area, i, request, out);
+    Answer::accepted(Session::Staging { bank, set: joined }, n)
+}
+
+// How many images are not in the set: "image count minus the committed set's count of ones".
+fn missing_images(r: &[u8], set: u32) -> u32
+    requires { ⌜ (sound (now r) ≡ true) × (set < 2 ^ imageCount (now r)) ⌝ }
+    ensures { λ n. ⌜ n ≡ missing set (now (r .entry)) ⌝ }
+{
+    let images = read16(r, 34) as u32;
+    images - u32::count_ones(set)
+}
+
+// End's stores, or 27.
+fn end_update(bank: u32, set: u32, area: &[u8], out: &mut [u32]) -> Answer
+    requires { ⌜ Admitted (Staging bank set) (now area) (now out) ⌝ }
+    ensures { λ r. ⌜ (outcomeOf r, now (out .exit)) ≡ endLine (Staging bank set) (now (area .entry)) (now (out .entry)) ⌝ }
+{
+    let count = missing_images(record_in(&area[0..COPY]), set);
+    if count != 0 {
+        return Answer::refused(
+            Session::Staging { bank, set },
+            Refusal::ImagesMissing(count),
+        );
+    }
+    let n = list_end(area, out);
+    Answer::accepted(Session::Restart, n)
+}
+
+// The session after image i is accepted in the active bank.
+fn after_accept(r: &[u8], i: usize) -> Session
+    requires { ⌜ (sound (now r) ≡ true) × (i < imageCount (now r)) ⌝ }
+    ensures { λ q. ⌜ q ≡ afterAccept i (now (r .entry)) ⌝ }
+{
+    let banks = r[32] as usize;
+    let images = read16(r, 34) as usize;
+    let active = read32(r, 8) as usize;
+    if all_accepted_with(r, banks, images, active, i) {
+        return Session::Regular;
+    }
+    Session::Trial
+}
+
+// Accept's stores, or 26.
+fn accept_image(area: &[u8], guid: &[u8], out: &mut [u32]) -> Answer
+    requires { ⌜ Changeable (now area) (now out) × (length (now guid) ≡ 16) ⌝ }
+    ensures { λ r. ⌜ (outcomeOf r, now (out .exit)) ≡ acceptLine Trial (now (guid .entry)) (now (area .entry)) (now (out .entry)) ⌝ }
+{
+    let r = record_in(&area[0..COPY]);
+    let images = read16(r, 34) as usize;
+    let i = image_of(r, guid);
+    if images <= i {
+        return Answer::refused(Session::Trial, Refusal::NoImage);
+    }
+    let next = after_accept(r, i);
+    let n = list_accept(area, i, out);
+    Answer::accepted(next, n)
+}
+
+// Select previous's stores, or 25: "the previous bank must be 252".
+fn select_bank(session: Session, area: &[u8], out: &mut [u32]) -> Answer
+    requires { ⌜ Changeable (now area) (now out) ⌝ }
+    ensures { λ r. ⌜ (outcomeOf r, now (out .exit)) ≡ selected session (now (area .entry)) (now (out .entry)) ⌝ }
+{
+    let r = record_in(&area[0..COPY]);
+    let at = 24 + read32(r, 12) as usize;
+    if r[at] != 252 {
+        return Answer::refused(session, Refusal::SessionState);
+    }
+    let n = list_exchange(area, out);
+    Answer::accepted(Session::Restart, n)
+}
+
+impl Session {
+    // Begin's own line, once it is admitted.
+    fn begin_line(self, area: &[u8], out: &mut [u32]) -> Answer
+        requires { ⌜ Admitted self (now area) (now out) ⌝ }
+        ensures { λ r. ⌜ (outcomeOf r, now (out .exit)) ≡ beginLine self (now (area .entry)) (now (out .entry)) ⌝ }
+    {
+        match self {
+            Session::Regular => begin_update(area, out),
+            Session::Staging { bank: _, set: _ } => begin_update(area, out),
+            Session::Trial => Answer::refused(self, Refusal::SessionState),
+            Session::Fallback => Answer::refused(self, Refusal::SessionState),
+            Session::Restart => Answer::refused(self, Refusal::SessionState),
+        }
+    }
+
+    // "Begin (Regular, Staging)". Lists in `out` the stores of the change: pairs of an offset and a word, to be done in list order. Numbers past the
+    // list stay, and on a refusal every number does. So with each call.
+    pub fn begin(self, area: &[u8], out: &mut [u32]) -> Answer
+        ensures { λ r. ⌜ (outcomeOf r, now (out .exit)) ≡ beginCall self (now (area .entry)) (now (out .entry)) ⌝ }
+    {
+        let verdict = admit(self, area, out.len());
+        match verdict {
+            Verdict::Refused(why) => Answer::refused(self, why),
+            Verdict::Accepted => self.begin_line(area, out),
+        }
+    }
+
+    // Commit's own line.
+    fn commit_line(self, area: &[u8], guid: &[u8], request: u32, out: &mut [u32]) -> Answer
+        requires { ⌜ Admitted self (now area) (now out) × (length (now guid) ≡ 16) ⌝ }
+        ensures { λ r. ⌜ (outcomeOf r, now (out .exit)) ≡ commitLine self (now (guid .entry)) request (now (area .entry)) (now (out .entry)) ⌝ }
+    {
+        match self {
+            Session::Regular => Answer::refused(self, Refusal::SessionState),
+            Session::Staging { bank, set } => commit_image(bank, set, area, guid, request, out),
+            Session::Trial => Answer::refused(self, Refusal::SessionState),
+            Session::Fallback => Answer::refused(self, Refusal::SessionState),
+            Session::Restart => Answer::refused(self, Refusal::SessionState),
+        }
+    }
+
+    // "Commit (Staging), by type GUID and a request".
+    pub fn commit(self, area: &[u8], guid: [u8; 16], request: u32, out: &mut [u32]) -> Answer
+        ensures { λ r. ⌜ (outcomeOf r, now (out .exit)) ≡ commitCall self guid request (now (area .entry)) (now (out .entry)) ⌝ }
+    {
+        let verdict = admit(self, area, out.len());
+        match verdict {
+            Verdict::Refused(why) => Answer::refused(self, why),
+            Verdict::Accepted => self.commit_line(area, &guid, request, out),
+        }
+    }
+
+    // End's own line.
+    fn end_line(self, area: &[u8], out: &mut [u32]) -> Answer
+        requires { ⌜ Admitted self (now area) (now out) ⌝ }
+        ensures { λ r. ⌜ (outcomeOf r, now (out .exit)) ≡ endLine self (now (area .entry)) (now (out .entry)) ⌝ }
+    {
+        match self {
+            Session::Regular => Answer::refused(self, Refusal::SessionState),
+            Session::Staging { bank, set } => end_update(bank, set, area, out),
+            Session::Trial => Answer::refused(self, Refusal::SessionState),
+            Session::Fallback => Answer::refused(self, Refusal::SessionState),
+            Session::Restart => Answer::refused(self, Refusal::SessionState),
+        }
+    }
+
+    // "End (Staging)".
+    pub fn end(self, area: &[u8], out: &mut [u32]) -> Answer
+        ensures { λ r. ⌜ (outcomeOf r, now (out .exit)) ≡ endCall self (now (area .entry)) (now (out .entry)) ⌝ }
+    {
+        let verdict = admit(self, area, out.len());
+        match verdict {
+            Verdict::Refused(why) => Answer::refused(self, why),
+            Verdict::Accepted => self.end_line(area, out),
+        }
+    }
+
+    // Cancel's own line: "Cancel itself changes nothing in the record", so nothing is listed.
+    fn cancel_line(self, area: &[u8], out: &mut [u32]) -> Answer
+        requires { ⌜ Admitted self (now area) (now out) ⌝ }
+        ensures { λ r. ⌜ (outcomeOf r, now (out .exit)) ≡ cancelLine self (now (area .entry)) (now (out .entry)) ⌝ }
+    {
+        match self {
+            Session::Regular => Answer::refused(self, Refusal::SessionState),
+            Session::Staging { bank: _, set: _ } => Answer::accepted(Session::Regular, 0),
+            Session::Trial => Answer::refused(self, Refusal::SessionState),
+            Session::Fallback => Answer::refused(self, Refusal::SessionState),
+            Session::Restart => Answer::refused(self, Refusal::SessionState),
+        }
+    }
+
+    // "Cancel (Staging)".
+    pub fn cancel(self, area: &[u8], out: &mut [u32]) -> Answer
+        ensures { λ r. ⌜ (outcomeOf r, now (out .exit)) ≡ cancelCall self (now (area .entry)) (now (out .entry)) ⌝ }
+    {
+        let verdict = admit(self, area, out.len());
+        match verdict {
+            Verdict::Refused(why) => Answer::refused(self, why),
+            Verdict::Accepted => self.cancel_line(area, out),
+        }
+    }
+
+    // Accept's own line.
+    fn accept_line(self, area: &[u8], guid: &[u8], out: &mut [u32]) -> Answer
+        requires { ⌜ Admitted self (now area) (now out) × (length (now guid) ≡ 16) ⌝ }
+        ensures { λ r. ⌜ (outcomeOf r, now (out .exit)) ≡ acceptLine self (now (guid .entry)) (now (area .entry)) (now (out .entry)) ⌝ }
+    {
+        match self {
+            Session::Regular => Answer::refused(self, Refusal::SessionState),
+            Session::Staging { bank: _, set: _ } => Answer::refused(self, Refusal::SessionState),
+            Session::Trial => accept_image(area, guid, out),
+            Session::Fallback => Answer::refused(self, Refusal::SessionState),
+            Session::Restart => Answer::refused(self, Refusal::SessionState),
+        }
+    }
+
+    // "Accept (Trial)", by type GUID.
+    pub fn accept(self, area: &[u8], guid: [u8; 16], out: &mut [u32]) -> Answer
+        ensures { λ r. ⌜ (outcomeOf r, now (out .exit)) ≡ acceptCall self guid (now (area .entry)) (now (out .entry)) ⌝ }
+    {
+        let verdict = admit(self, area, out.len());
+        match verdict {
+            Verdict::Refused(why) => Answer::refused(self, why),
+            Verdict::Accepted => self.accept_line(area, &guid, out),
+        }
+    }
+
+    // Select previous's own line.
+    fn select_previous_line(self, area: &[u8], out: &mut [u32]) -> Answer
+        requires { ⌜ Admitted self (now area) (now out) ⌝ }
+        ensures { λ r. ⌜ (outcomeOf r, now (out .exit)) ≡ selectPreviousLine self (now (area .entry)) (now (out .entry)) ⌝ }
+    {
+        match self {
+            Session::Regular => Answer::refused(self, Refusal::SessionState),
+            Session::Staging { bank: _, set: _ } => Answer::refused(self, Refusal::SessionState),
+            Session::Trial => select_bank(self, area, out),
+            Session::Fallback => select_bank(self, area, out),
+            Session::Restart => Answer::refused(self, Refusal::SessionState),
+        }
+    }
+
+    // "Select previous (Trial, Fallback)".
+    pub fn select_previous(self, area: &[u8], out: &mut [u32]) -> Answer
+        ensures { λ r. ⌜ (outcomeOf r, now (out .exit)) ≡ selectPreviousCall self (now (area .entry)) (now (out .entry)) ⌝ }
+    {
+        let verdict = admit(self, area, out.len());
+        match verdict {
+            Verdict::Refused(why) => Answer::refused(self, why),
+            Verdict::Accepted => self.select_previous_line(area, out),
         }
     }
 }
