@@ -1,12 +1,12 @@
 -- What a call knows once it is admitted, and what its result is where it is not. Assumes nothing.
 use mathlib.Core.Path.{_≡_, refl, sym, ap, _∙_}
-use mathlib.Core.Bool.{Bool, true, false, cond, _&&_, _||_}
+use mathlib.Core.Bool.{Bool, true, false, cond, not, _&&_, _||_}
 use mathlib.Core.List.{List}
 use Prim.Native.Nat.{ℕ, _+_, _*_, _%_, _^_, _≤_, _<_}
 use native.Mathlib.Nat.{mod-lt}
 use native.Mathlib.Omega.{arith}
-use borrow.Author.Tests.{eqb-true, leb-true, ltb-true, eq-eqb, le-leb}
-use lib.Dec.{eqb, leb, ltb}
+use borrow.Author.Tests.{eqb-true, ltb-true, ltb-false, eq-eqb, le-ltb}
+use lib.Dec.{eqb, ltb}
 use lib.ListN.{length}
 use Rattle.fields.proofs.Tests.{both}
 use Rattle.refusals.specs.declared.Refusal.{Refusal}
@@ -24,7 +24,7 @@ use Rattle.changes.specs.NewRecord.{updateBankOf}
 use Rattle.session.specs.declared.Session.{Session}
 use Rattle.session.specs.declared.Session.the-variants.{Staging}
 use Rattle.session.specs.Outcome.{Decision, accepted, refusal, refused, refusedWith}
-use Rattle.session.specs.Calls.{Result, held, stagingFits, admission, afterAdmission, called}
+use Rattle.session.specs.Calls.{Result, held, stagingFits, admission, ifAdmitted, called}
 use Rattle.session.specs.Admitted.{Admitted, equalAdmission}
 use Rattle.session.proofs.Bits.{one-shifted}
 
@@ -61,36 +61,36 @@ held-sound a s h =
 -- a test that fails gives a refusal
 passed : (v w x y z : Bool)
     → accepted
-    ≡ cond v
-    (cond w (cond x (cond y (cond z accepted (refused StagingFault)) (refused CopiesDiffer)) (refused NoSoundCopy)) (refused StoreSlice))
-    (refused AreaLength)
-    → (v ≡ true) × (w ≡ true) × (y ≡ true) × (z ≡ true)
-passed true true true true true e = (refl, refl, refl, refl)
-passed true true true true false e = let q : _≡_ {A = ℕ} 0 1 = cc in absurd (omega arith)
-passed true true true false z e = let q : _≡_ {A = ℕ} 0 1 = cc in absurd (omega arith)
-passed true true false y z e = let q : _≡_ {A = ℕ} 0 1 = cc in absurd (omega arith)
-passed true false x y z e = let q : _≡_ {A = ℕ} 0 1 = cc in absurd (omega arith)
+    ≡ cond (not v) (refused AreaLength)
+    (cond w (refused StoreSlice)
+    (cond (not x) (refused NoSoundCopy) (cond (not y) (refused CopiesDiffer) (cond (not z) (refused StagingFault) accepted))))
+    → (v ≡ true) × (w ≡ false) × (y ≡ true) × (z ≡ true)
+passed true false true true true e = (refl, refl, refl, refl)
+passed true false true true false e = let q : _≡_ {A = ℕ} 0 1 = cc in absurd (omega arith)
+passed true false true false z e = let q : _≡_ {A = ℕ} 0 1 = cc in absurd (omega arith)
+passed true false false y z e = let q : _≡_ {A = ℕ} 0 1 = cc in absurd (omega arith)
+passed true true x y z e = let q : _≡_ {A = ℕ} 0 1 = cc in absurd (omega arith)
 passed false w x y z e = let q : _≡_ {A = ℕ} 0 1 = cc in absurd (omega arith)
 
 pub admitted : (q : Session) (a s : List ℕ) → accepted ≡ admission q a (length s) → Admitted q a s
 unfolding admission
 admitted q a s e =
     let p =
-    passed (eqb (length a) areaSize) (leb storeNumbers (length s)) (soundCopy (copy0 a) || soundCopy (copy1 a)) (soundAndEqual a)
+    passed (eqb (length a) areaSize) (ltb (length s) storeNumbers) (soundCopy (copy0 a) || soundCopy (copy1 a)) (soundAndEqual a)
     (stagingFits q (held a)) e in
     record {
-      change = record { long = eqb-true (length a) areaSize (p .0); equal = p .2; room = leb-true storeNumbers (length s) (p .1) };
+      change = record { long = eqb-true (length a) areaSize (p .0); equal = p .2; room = ltb-false (length s) storeNumbers (p .1) };
       staging = p .3;
     }
 
 -- a call's result, admitted or not
 pub called-accepted : (q : Session) (a s : List ℕ) (own : Result) → accepted ≡ admission q a (length s) → own ≡ called q a s own
-unfolding called afterAdmission
+unfolding called ifAdmitted
 called-accepted q a s own e = rw (← e)
 
 pub called-refused : (q : Session) (a s : List ℕ) (own : Result) (why : Refusal)
     → refused why ≡ admission q a (length s) → (refusedWith q why, s) ≡ called q a s own
-unfolding called afterAdmission
+unfolding called ifAdmitted
 called-refused q a s own why e = rw (← e)
 
 -- by the copy that is read
@@ -106,17 +106,17 @@ neither false false e = (refl, refl)
 
 pub admission-copy0 : (q : Session) (a : List ℕ) (n : ℕ) → length a ≡ areaSize → storeNumbers ≤ n → sourceOf a ≡ Copy0 → equalAdmission q a ≡ admission q a n
 unfolding admission equalAdmission soundCopy
-admission-copy0 q a n l h e = rw (eq-eqb (length a) areaSize l, le-leb storeNumbers n h, from-copy0 a e)
+admission-copy0 q a n l h e = rw (eq-eqb (length a) areaSize l, le-ltb n storeNumbers h, from-copy0 a e)
 
 pub admission-copy1 : (q : Session) (a : List ℕ) (n : ℕ) → length a ≡ areaSize → storeNumbers ≤ n → sourceOf a ≡ Copy1 → refused CopiesDiffer ≡ admission q a n
 unfolding admission soundAndEqual sourceOf
 admission-copy1 q a n l h e =
-    let p = second (soundCopy (copy0 a)) (soundCopy (copy1 a)) e in rw (eq-eqb (length a) areaSize l, le-leb storeNumbers n h, p .0, p .1)
+    let p = second (soundCopy (copy0 a)) (soundCopy (copy1 a)) e in rw (eq-eqb (length a) areaSize l, le-ltb n storeNumbers h, p .0, p .1)
 
 pub admission-neither : (q : Session) (a : List ℕ) (n : ℕ) → length a ≡ areaSize → storeNumbers ≤ n → sourceOf a ≡ Neither → refused NoSoundCopy ≡ admission q a n
 unfolding admission sourceOf
 admission-neither q a n l h e =
-    let p = neither (soundCopy (copy0 a)) (soundCopy (copy1 a)) e in rw (eq-eqb (length a) areaSize l, le-leb storeNumbers n h, p .0, p .1)
+    let p = neither (soundCopy (copy0 a)) (soundCopy (copy1 a)) e in rw (eq-eqb (length a) areaSize l, le-ltb n storeNumbers h, p .0, p .1)
 
 -- 24, where bank and state are right: the set is below 2 to the power of the images
 pub set-decides : (bank set k : ℕ) (r : List ℕ) → bank ≡ updateBankOf r → state r bank ≡ 255 → k ≡ imageCount r → k < 64

@@ -29,10 +29,10 @@ abbrev pub held : List ℕ → List ℕ
 held a = recordOf (copy0 a)
 
 -- "A refusal gives the number (..; 27 also the count), the session as it was .., no .. list, .. and no byte altered."
-unfoldable pub refusedBy : Session → Decision → (s : List ℕ) → Result
+abbrev pub refusedBy : Session → Decision → (s : List ℕ) → Result
 refusedBy q why s = ((q, why, 0), s)
 
-abbrev pub refusedCall : Session → Refusal → (s : List ℕ) → Result
+unfoldable pub refusedCall : Session → Refusal → (s : List ℕ) → Result
 refusedCall q why s = refusedBy q (refused why) s
 
 -- "An accepted call answers the next session and a list of stores": those that put the new record into both copies

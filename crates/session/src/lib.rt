@@ -1,6 +1,13 @@
 // The session, the answer of start-up, repair and the calls, and the six calls (document 01, "Session and calls"). Each call tests in the
 // order of "When the bench says no", 20, 23, 21, 22, 24 and then its own line's 25, 26 and 27; a refusal hands the session back as it
 // was, with no list.
+use changes::all_accepted_with;
+use changes::find_image;
+use changes::list_accept;
+use changes::list_begin;
+use changes::list_commit;
+use changes::list_end;
+use changes::list_exchange;
 use copies::AREA;
 use copies::COPY;
 use copies::Source;
@@ -75,59 +82,6 @@ impl Answer {
         }
     }
 }
-
-// ---- STUBS: these are crate changes' functions, to be replaced by `use changes::..` ----
-
-fn find_image(r: &[u8], banks: usize, images: usize, guid: &[u8]) -> usize
-    requires { ⌜ Sized (now r) banks images × (length (now guid) ≡ 16) ⌝ }
-    ensures { λ i. ⌜ i ≡ imageWith (now (guid .entry)) (now (r .entry)) ⌝ }
-{
-    0
-}
-
-fn all_accepted_with(r: &[u8], banks: usize, images: usize, b: usize, i: usize) -> bool
-    requires { ⌜ Sized (now r) banks images × (b < banks) × (i < images) × (b ≡ active (now r)) ⌝ }
-    ensures { λ x. ⌜ x ≡ allAccepted (marked i (now (r .entry))) (active (now (r .entry))) ⌝ }
-{
-    true
-}
-
-fn list_begin(area: &[u8], out: &mut [u32]) -> usize
-    requires { ⌜ Changeable (now area) (now out) ⌝ }
-    ensures { λ n. ⌜ Listed n (changeStores (now (area .entry)) (begunRecord (recordOf (copy0 (now (area .entry)))))) (now (out .entry)) (now (out .exit)) ⌝ }
-{
-    0
-}
-
-fn list_commit(area: &[u8], i: usize, request: u32, out: &mut [u32]) -> usize
-    requires { ⌜ Changeable (now area) (now out) × (i < imageCount (recordOf (copy0 (now area)))) ⌝ }
-    ensures { λ n. ⌜ Listed n (changeStores (now (area .entry)) (committedRecord i request (recordOf (copy0 (now (area .entry)))))) (now (out .entry)) (now (out .exit)) ⌝ }
-{
-    0
-}
-
-fn list_end(area: &[u8], out: &mut [u32]) -> usize
-    requires { ⌜ Changeable (now area) (now out) ⌝ }
-    ensures { λ n. ⌜ Listed n (changeStores (now (area .entry)) (endedRecord (recordOf (copy0 (now (area .entry)))))) (now (out .entry)) (now (out .exit)) ⌝ }
-{
-    0
-}
-
-fn list_accept(area: &[u8], i: usize, out: &mut [u32]) -> usize
-    requires { ⌜ Changeable (now area) (now out) × (i < imageCount (recordOf (copy0 (now area)))) ⌝ }
-    ensures { λ n. ⌜ Listed n (changeStores (now (area .entry)) (acceptedRecord i (recordOf (copy0 (now (area .entry)))))) (now (out .entry)) (now (out .exit)) ⌝ }
-{
-    0
-}
-
-fn list_exchange(area: &[u8], out: &mut [u32]) -> usize
-    requires { ⌜ Changeable (now area) (now out) ⌝ }
-    ensures { λ n. ⌜ Listed n (changeStores (now (area .entry)) (exchangedRecord (recordOf (copy0 (now (area .entry)))))) (now (out .entry)) (now (out .exit)) ⌝ }
-{
-    0
-}
-
-// ---- end of the stubs ----
 
 // "the update bank is (active + 1) mod banks"
 fn update_bank(r: &[u8]) -> u32
