@@ -6,9 +6,10 @@ use Prim.Native.Nat.{ℕ, _+_, _-_, _≤_, _<_}
 use native.Mathlib.Omega.{arith}
 use lib.ListN.{length, take, length-map, length-append}
 use lib.Seq.{take-all}
+use Rattle.fields.specs.Number.{Bytes}
 use Rattle.fields.specs.Guid.{same}
 use Rattle.stores.specs.Stores.{Store, shift}
-use Rattle.power_cuts.specs.Area.{Bytes, afterStores, afterCut}
+use Rattle.power_cuts.specs.Area.{afterStores, afterCut}
 use Rattle.power_cuts.specs.Format.{Format, FormatLaws, Writer, WriterLaws, Writable, Area, Inside, recordOf, copy0, copy1, over}
 use Rattle.power_cuts.specs.Theorem.{BothHold, listed, changeStores, changeCut}
 use Rattle.power_cuts.proofs.Runs.{inside-take, inside-more, shift-none, stores-length, stores-bytes, stores-both}

@@ -7,12 +7,13 @@ use native.Mathlib.Omega.{arith}
 use native.Mathlib.Decide.{decLe}
 use lib.ListN.{length, take, drop, getD, take-append-drop}
 use lib.Seq.{take-all, take-append-seam, drop-append-seam}
+use Rattle.fields.specs.Number.{Bytes}
 use Rattle.fields.specs.Guid.{same}
+use Rattle.fields.proofs.Bytes.{take-bytes}
 use Rattle.fields.proofs.Guid.{same-true}
 use Rattle.record.specs.Layout.{versionAt}
-use Rattle.power_cuts.specs.Area.{Bytes, afterStores, afterCut}
+use Rattle.power_cuts.specs.Area.{afterStores, afterCut}
 use Rattle.power_cuts.specs.Format.{Format, FormatLaws, Writer, WriterLaws, Writable, recordOf, soundCopy, over, Inside}
-use Rattle.power_cuts.proofs.Words.{take-bytes}
 
 -- the copy is sound and holds the record r
 pub record Holds (F : Format) (r c : List ℕ) : Type 0 where

@@ -7,10 +7,10 @@ use Prim.Native.Nat.{ℕ, _+_}
 use native.Mathlib.Omega.{arith}
 use lib.ListN.{length, take, drop, length-append, length-drop, take-append-drop}
 use lib.Seq.{take-all, take-at, drop-at, length-take-le}
-use Rattle.power_cuts.specs.Area.{Bytes}
+use Rattle.fields.specs.Number.{Bytes}
+use Rattle.fields.proofs.Bytes.{take-bytes, drop-bytes, append-bytes}
 use Rattle.power_cuts.specs.Format.{Format, Area, recordOf, soundCopy, copy0, copy1}
 use Rattle.power_cuts.specs.Theorem.{readOf, recordRead, BothHold}
-use Rattle.power_cuts.proofs.Words.{take-bytes, drop-bytes, append-bytes}
 use Rattle.power_cuts.proofs.Copy.{Holds}
 
 pub record Parts (F : Format) (a x y : List ℕ) : Type 0 where

@@ -10,11 +10,11 @@ use borrow.Author.Tests.{eqb-true}
 use lib.Dec.{eqb}
 use lib.ListN.{length, take, drop, getD, length-append, length-drop, List·getD-append}
 use lib.Seq.{take-append-le, getD-append-add, getD-drop, ext-getD}
-use Rattle.fields.specs.Number.{le}
+use Rattle.fields.specs.Number.{Bytes, le}
 use Rattle.fields.proofs.Number.{le-bytes}
 use Rattle.record.specs.Layout.{versionAt}
 use Rattle.stores.specs.Stores.{store, offsets, otherWords, differing, writes}
-use Rattle.power_cuts.specs.Area.{Bytes, afterStore, afterStores, afterCut}
+use Rattle.power_cuts.specs.Area.{afterStore, afterStores, afterCut}
 use Rattle.power_cuts.specs.Format.{Format, FormatLaws, Writable, WriterLaws, Inside, over}
 use Rattle.power_cuts.specs.Version2.{planned}
 use Rattle.power_cuts.proofs.Words.{store-length, store-miss, store-hit, store-agree, store-zero}

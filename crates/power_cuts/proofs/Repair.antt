@@ -6,10 +6,11 @@ use Prim.Native.Nat.{ℕ, _+_, _≤_}
 use native.Mathlib.Omega.{arith}
 use lib.ListN.{length, take, length-map}
 use lib.Seq.{take-nil}
+use Rattle.fields.specs.Number.{Bytes}
 use Rattle.fields.specs.Guid.{same}
 use Rattle.fields.proofs.Guid.{same-true, same-refl}
 use Rattle.stores.specs.Stores.{Store, shift}
-use Rattle.power_cuts.specs.Area.{Bytes, afterStores, afterCut}
+use Rattle.power_cuts.specs.Area.{afterStores, afterCut}
 use Rattle.power_cuts.specs.Format.{Format, FormatLaws, Writer, WriterLaws, Writable, Inside, recordOf, soundCopy, copy0, copy1, over}
 use Rattle.power_cuts.specs.Theorem.{equalCopies, intoOther, repairStores}
 use Rattle.power_cuts.proofs.Runs.{take-map, inside-take, inside-more, shift-none, stores-length, stores-bytes, stores-left, stores-right}

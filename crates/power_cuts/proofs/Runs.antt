@@ -7,8 +7,9 @@ use native.Mathlib.Nat.{zero-add, zero-sub, sub-zero, suc-sub-suc}
 use native.Mathlib.Omega.{arith}
 use lib.ListN.{length, take, getD}
 use lib.Seq.{take-nil}
+use Rattle.fields.specs.Number.{Bytes}
 use Rattle.stores.specs.Stores.{Store, store, shift}
-use Rattle.power_cuts.specs.Area.{Bytes, afterStore, afterStores}
+use Rattle.power_cuts.specs.Area.{afterStore, afterStores}
 use Rattle.power_cuts.specs.Format.{Inside}
 use Rattle.power_cuts.proofs.Words.{store-length, store-bytes, store-left, store-right, store-miss, store-hit, store-agree}
 

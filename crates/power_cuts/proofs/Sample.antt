@@ -8,17 +8,16 @@ use native.Mathlib.Omega.{arith}
 use borrow.Author.Tests.{ltb-true}
 use lib.Dec.{ltb}
 use lib.ListN.{length, replicate, length-replicate, length-append}
-use Rattle.fields.specs.Number.{le}
+use Rattle.fields.specs.Number.{Bytes, le}
 use Rattle.fields.specs.Guid.{guid, same}
 use Rattle.fields.proofs.Tests.{both}
+use Rattle.fields.proofs.Bytes.{append-bytes}
 use Rattle.crc.specs.Crc.{step, steps, withByte, withBytes, crc32Of}
 use Rattle.record.specs.Every.{below}
 use Rattle.record.specs.Layout.{areaSize}
 use Rattle.record.specs.Rules as rule
 use Rattle.copies.specs.Copies.{soundAndEqual}
-use Rattle.power_cuts.specs.Area.{Bytes}
 use Rattle.power_cuts.specs.Version2.{version2}
-use Rattle.power_cuts.proofs.Words.{append-bytes}
 use Rattle.power_cuts.proofs.Copy.{Holds, starts-holds}
 use Rattle.power_cuts.proofs.Parts.{Parts, settled-both}
 use Rattle.power_cuts.proofs.Version2.{version2-laws, of-both}

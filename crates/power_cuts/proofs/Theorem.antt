@@ -8,7 +8,8 @@ use Prim.Native.Nat.{ℕ, _≤_, _<_}
 use native.Mathlib.Omega.{arith}
 use native.Mathlib.Decide.{decLe}
 use lib.ListN.{length}
-use Rattle.power_cuts.specs.Area.{Bytes, afterStores, afterCut}
+use Rattle.fields.specs.Number.{Bytes}
+use Rattle.power_cuts.specs.Area.{afterStores, afterCut}
 use Rattle.power_cuts.specs.Format.{Format, FormatLaws, Writer, WriterLaws, Area, copy0, copy1}
 use Rattle.power_cuts.specs.Theorem.{recordRead, BothHold, changeCut, Event, Lasts, Survives, PowerCuts}
 use Rattle.power_cuts.proofs.Parts.{parts-of, State, Settled, state-read, state-area, state-of, settled-state, settled-both}

@@ -11,7 +11,7 @@ use borrow.Author.Tests.{le-leb, eq-eqb}
 use lib.Dec.{leb}
 use lib.ListN.{length, getD, List·getD-append}
 use lib.Seq.{take-length}
-use Rattle.fields.specs.Number.{le}
+use Rattle.fields.specs.Number.{Bytes, le}
 use Rattle.fields.specs.Guid.{same}
 use Rattle.fields.proofs.Number.{le-same}
 use Rattle.fields.proofs.Guid.{same-true, same-refl}
@@ -29,7 +29,7 @@ use Rattle.copies.specs.declared.Source.{Source}
 use Rattle.copies.specs.declared.Source.the-variants.{Copy0, Copy1, Neither}
 use Rattle.start_up.specs.StartUp.{startedFrom, startedAt, startUp}
 use Rattle.stores.specs.Stores.{Store, plan}
-use Rattle.power_cuts.specs.Area.{Bytes, afterStores, afterCut}
+use Rattle.power_cuts.specs.Area.{afterStores, afterCut}
 use Rattle.power_cuts.specs.Format.{FormatLaws, WriterLaws}
 use Rattle.power_cuts.specs.Format as format
 use Rattle.power_cuts.specs.Theorem.{PowerCuts, Event}

@@ -7,34 +7,13 @@ use native.Mathlib.Nat.{add-assoc, add-zero}
 use native.Mathlib.Omega.{arith}
 use native.Mathlib.Decide.{decLt, decLe}
 use lib.ListN.{length, take, drop, getD}
-use lib.Seq.{take-append-le, drop-append-le, take-append-add, drop-append-add, getD-drop}
-use Rattle.fields.specs.Number.{le, bytes, put}
+use lib.Seq.{take-append-le, drop-append-le, take-append-add, drop-append-add}
+use Rattle.fields.specs.Number.{Bytes, le, bytes, put}
 use Rattle.fields.proofs.Number.{length-bytes}
 use Rattle.fields.proofs.Put.{put-length, put-outside, put-inside}
+use Rattle.fields.proofs.Bytes.{bytes-small, put-bytes}
 use Rattle.stores.specs.Stores.{Store, store}
-use Rattle.power_cuts.specs.Area.{Bytes, afterStore}
-
--- ---- bytes
-pub take-bytes : (n : ℕ) (c : List ℕ) → Bytes c → Bytes (take n c)
-take-bytes zero c b i = omega arith
-take-bytes (suc n) [] b i = omega arith
-take-bytes (suc n) (x ∷ xs) b zero = b zero
-take-bytes (suc n) (x ∷ xs) b (suc i) = take-bytes n xs (λ j. b (suc j)) i
-
-pub drop-bytes : (n : ℕ) (c : List ℕ) → Bytes c → Bytes (drop n c)
-drop-bytes n c b i = rw getD-drop (b (n + i))
-
-pub append-bytes : (x y : List ℕ) → Bytes x → Bytes y → Bytes (x ++ y)
-append-bytes [] y b c i = c i
-append-bytes (z ∷ x) y b c zero = b zero
-append-bytes (z ∷ x) y b c (suc i) = append-bytes x y (λ j. b (suc j)) c i
-
--- what is written is bytes
-bytes-small : (n v : ℕ) → Bytes (bytes n v)
-unfolding bytes
-bytes-small zero v i = omega arith
-bytes-small (suc n) v zero = omega arith
-bytes-small (suc n) v (suc i) = bytes-small n (v / 256) i
+use Rattle.power_cuts.specs.Area.{afterStore}
 
 -- a number's bytes are those that it was read from
 bytes-of-le : (n : ℕ) (r : List ℕ) (o k : ℕ) → Bytes r → k < n → getD (bytes n (le n r o)) k 0 ≡ getD r (o + k) 0
@@ -65,11 +44,8 @@ module _ (l : List ℕ) (s : Store) (fits : s .0 + 4 ≤ length l) where
   store-at k h = put-inside l (s .0) (bytes 4 (s .1)) room k (rw (length-bytes 4 (s .1)) h)
 
 pub store-bytes : (l : List ℕ) (s : Store) → Bytes l → Bytes (afterStore l s)
-unfolding afterStore put
-store-bytes l s b =
-    append-bytes (take (s .0) l ++ bytes 4 (s .1)) (drop (s .0 + length (bytes 4 (s .1))) l)
-    (append-bytes (take (s .0) l) (bytes 4 (s .1)) (take-bytes (s .0) l b) (bytes-small 4 (s .1)))
-    (drop-bytes (s .0 + length (bytes 4 (s .1))) l b)
+unfolding afterStore
+store-bytes l s b = put-bytes l (s .0) (bytes 4 (s .1)) b (bytes-small 4 (s .1))
 
 -- the word 0 puts a zero
 pub store-zero : (l : List ℕ) (o : ℕ) → o + 4 ≤ length l → getD (afterStore l (o, 0)) o 0 ≡ 0

@@ -1,13 +1,9 @@
 -- An area under stores and cuts (document 01, "Power cuts"). a is the bytes of an area, or of a copy in it. Assumes nothing.
-use Prim.Native.Nat.{ℕ, _<_}
+use Prim.Native.Nat.{ℕ}
 use mathlib.Core.List.{List, [], _∷_}
-use lib.ListN.{take, getD}
+use lib.ListN.{take}
 use Rattle.fields.specs.Number.{bytes, put}
 use Rattle.stores.specs.Stores.{Store}
-
--- a list of bytes: each is below 256
-abbrev pub Bytes : List ℕ → Type 0
-Bytes a = (i : ℕ) → getD a i 0 < 256
 
 -- "each puts its word into the four bytes at its offset. No store is torn, and every other byte stays."
 unfoldable pub afterStore : List ℕ → Store → List ℕ

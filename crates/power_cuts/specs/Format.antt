@@ -6,9 +6,10 @@ use mathlib.Core.Logic.{_≢_}
 use mathlib.Core.Bool.{Bool, true}
 use mathlib.Core.List.{List, [], _∷_, _++_}
 use lib.ListN.{length, take, drop, getD}
+use Rattle.fields.specs.Number.{Bytes}
 use Rattle.record.specs.Layout.{versionAt}
 use Rattle.stores.specs.Stores.{Store}
-use Rattle.power_cuts.specs.Area.{Bytes, afterStores, afterCut}
+use Rattle.power_cuts.specs.Area.{afterStores, afterCut}
 
 -- A format: the size of a copy; how many numbers a store slice must hold; how long the record is which a copy starts with, as the copy's own
 -- bytes tell; and the rules of soundness, the checksum's among them, over the bytes of a record alone

@@ -9,9 +9,10 @@ use mathlib.Core.Option.{Option, none, some}
 use mathlib.Core.List.{List, [], _∷_, _++_, map}
 use lib.Dec.{ltb}
 use lib.ListN.{length}
+use Rattle.fields.specs.Number.{Bytes}
 use Rattle.fields.specs.Guid.{same}
 use Rattle.stores.specs.Stores.{Store, shift}
-use Rattle.power_cuts.specs.Area.{Bytes, afterCut}
+use Rattle.power_cuts.specs.Area.{afterCut}
 use Rattle.power_cuts.specs.Format.{Format, Writer, Area, recordOf, soundCopy, copy0, copy1, over}
 
 -- "The record read is copy 0 if sound, else copy 1 if sound."

@@ -8,6 +8,7 @@ use mathlib.Core.Bool.{true, cond}
 use mathlib.Core.List.{List, [], _++_}
 use lib.Dec.{leb}
 use lib.ListN.{length}
+use Rattle.fields.specs.Number.{Bytes}
 use Rattle.record.specs.Layout.{areaSize, copySize, headerSize, size, recordOf, copy0, copy1}
 use Rattle.record.specs.Rules.{sound}
 use Rattle.copies.specs.Copies.{sourceOf, readFrom, soundAndEqual}
@@ -17,7 +18,7 @@ use Rattle.start_up.specs.StartUp.{startUp, startedFrom}
 use Rattle.repair.specs.Repair as entry
 use Rattle.alterations.specs.ChangeStores.{changeStores}
 use Rattle.stores.specs.Stores.{Store, storeNumbers, otherWords, differing, writes, plan}
-use Rattle.power_cuts.specs.Area.{Bytes, afterStores, afterCut}
+use Rattle.power_cuts.specs.Area.{afterStores, afterCut}
 use Rattle.power_cuts.specs.Format.{Format, Writer, over}
 use Rattle.power_cuts.specs.Theorem.{Event, afterList, Finished}
 use Rattle.power_cuts.specs.Theorem as general

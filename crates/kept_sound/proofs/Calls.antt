@@ -1,0 +1,150 @@
+-- What the record says that each call makes, before its CRC is worked anew. Assumes nothing.
+use mathlib.Core.Path.{_≡_, refl, sym, ap, _∙_}
+use mathlib.Core.Bool.{Bool, true, false, cond, _&&_, _||_}
+use mathlib.Core.List.{List}
+use Prim.Native.Nat.{ℕ, zero, suc, _+_, _^_, _≤_, _<_}
+use native.Mathlib.Omega.{arith}
+use borrow.Author.Tests.{eqb-true, eqb-false, ltb-true, ltb-false, lt-ltb, le-ltb}
+use lib.Dec.{eqb, ltb}
+use Rattle.fields.specs.Number.{Bytes}
+use Rattle.record.specs.Layout.{active, previous, bankCount, imageCount}
+use Rattle.record.specs.Rules.{invalid, valid, acceptedBank, allAccepted}
+use Rattle.record.specs.Sized.{Sized}
+use Rattle.alterations.specs.Fields.{setActive, setPrevious, setState, setAccepted}
+use Rattle.changes.specs.NewRecord.{updateBankOf, firstUnaccepted, marked}
+use Rattle.kept_sound.specs.Fields.{Fields, fieldsOf, withState, allIn, begun, committed, ended, markedIn, acceptedOf, exchanged}
+use Rattle.kept_sound.proofs.Says.{Says, says-active, says-previous, says-state, says-flag}
+use Rattle.kept_sound.proofs.Carried.{all-in, all-reads}
+
+-- the first n images of bank b unaccepted
+abbrev cleared : (n b : ℕ) → Fields → Fields
+cleared n b f =
+    record {
+      active-bank = f .active-bank;
+      previous-bank = f .previous-bank;
+      states = f .states;
+      flags = λ i c. cond (ltb i n && eqb c b) 0 (f .flags i c);
+    }
+
+-- flags told another way
+says-flags : (r : List ℕ) (banks images : ℕ) (x : List ℕ) (f g : Fields) → Says r banks images x f
+    → g .active-bank ≡ f .active-bank
+    → g .previous-bank ≡ f .previous-bank
+    → ((b : ℕ) → g .states b ≡ f .states b)
+    → ((i b : ℕ) → i < images → b < banks → g .flags i b ≡ f .flags i b)
+    → Says r banks images x g
+says-flags r banks images x f g w a p t h =
+    record {
+      long = w .long;
+      small = w .small;
+      active-is = w .active-is ∙ sym a;
+      previous-is = w .previous-is ∙ sym p;
+      state-is = λ b hb. w .state-is b hb ∙ sym (t b);
+      flag-is = λ i b hi hb. w .flag-is i b hi hb ∙ sym (h i b hi hb);
+      stays = w .stays;
+    }
+
+-- below n + 1 is at n or below it
+one-more : (i n : ℕ) → ltb i (suc n) ≡ (eqb i n || ltb i n)
+one-more i n = go (eqb i n) (ltb i n) refl refl
+  where
+    go : (p q : Bool) → eqb i n ≡ p → ltb i n ≡ q → ltb i (suc n) ≡ (p || q)
+    go true q e h = lt-ltb i (suc n) (omega (arith, eqb-true i n e))
+    go false true e h = lt-ltb i (suc n) (omega (arith, ltb-true i n h))
+    go false false e h = le-ltb i (suc n) (omega (arith, eqb-false i n e, ltb-false i n h))
+
+one-more-cleared : (p q t : Bool) (v : ℕ) → cond ((q || t) && p) 0 v ≡ cond (p && q) 0 (cond (t && p) 0 v)
+one-more-cleared true true true v = refl
+one-more-cleared true true false v = refl
+one-more-cleared true false true v = refl
+one-more-cleared true false false v = refl
+one-more-cleared false true true v = refl
+one-more-cleared false true false v = refl
+one-more-cleared false false true v = refl
+one-more-cleared false false false v = refl
+
+says-cleared : (r : List ℕ) (banks images : ℕ) → Sized r banks images → (x : List ℕ) (f : Fields) → Says r banks images x f
+    → (b : ℕ) → b < banks → (n : ℕ) → n ≤ images → Says r banks images (firstUnaccepted n b x) (cleared n b f)
+unfolding firstUnaccepted
+says-cleared r banks images s x f w b hb zero h =
+    says-flags r banks images x f (cleared zero b f) w refl refl (λ c. refl) (λ i c hi hc. rw (le-ltb i 0 (omega arith)))
+says-cleared r banks images s x f w b hb (suc n) h =
+    let before = says-cleared r banks images s x f w b hb n (omega arith) in
+    let one = says-flag r banks images s (firstUnaccepted n b x) (cleared n b f) before n b 0 (omega arith) hb (omega arith) in
+    says-flags r banks images (setAccepted n b 0 (firstUnaccepted n b x)) _ (cleared (suc n) b f) one refl refl (λ c. refl) (λ i c hi hc.
+    rw (one-more i n) (one-more-cleared (eqb c b) (eqb i n) (ltb i n) (f .flags i c)))
+
+module _ (r : List ℕ) (small : Bytes r) (s : Sized r (bankCount r) (imageCount r)) where
+  abbrev f : Fields
+  f = fieldsOf r
+
+  abbrev Told : List ℕ → Fields → Type 0
+  Told x g = Says r (bankCount r) (imageCount r) x g
+
+  -- the old record
+  told : Told r f
+  told =
+      record {
+        long = refl;
+        small = small;
+        active-is = refl;
+        previous-is = refl;
+        state-is = λ b h. refl;
+        flag-is = λ i b hi hb. refl;
+        stays = λ k e. refl;
+      }
+
+  module _ (low : active r < bankCount r) (u : ℕ) (hu : u < bankCount r) where
+    u4 : u < 4
+    u4 = omega (arith, s .banks-high)
+
+    pub begin-says : Told (firstUnaccepted (imageCount r) u (setState u invalid r)) (begun u f)
+    begin-says =
+        let state = says-state r (bankCount r) (imageCount r) s r f told u invalid u4 (omega arith) in
+        let x = setState u invalid r in
+        let all = says-cleared r (bankCount r) (imageCount r) s x (withState u invalid f) state u hu (imageCount r) (omega arith) in
+        says-flags r (bankCount r) (imageCount r) (firstUnaccepted (imageCount r) u x) _ (begun u f) all refl refl (λ b. refl) (λ i b hi hb.
+        rw (lt-ltb i (imageCount r) hi))
+
+    pub commit-says : (i request : ℕ) → i < imageCount r → Told (setAccepted i u (cond (eqb request 0) 1 0) r) (committed i request u f)
+    commit-says i request hi =
+        says-flag r (bankCount r) (imageCount r) s r f told i u (cond (eqb request 0) 1 0) hi hu (go (eqb request 0))
+      where
+        go : (t : Bool) → cond t 1 0 < 2 ^ 32
+        go true = omega arith
+        go false = omega arith
+
+    pub end-says : Told (setActive u (setPrevious (active r) (setState u (cond (allAccepted r u) acceptedBank valid) r))) (ended (imageCount r) u f)
+    end-says =
+        let v = cond (allIn (imageCount r) u f) acceptedBank valid in
+        let state = says-state r (bankCount r) (imageCount r) s r f told u v u4 (go (allIn (imageCount r) u f)) in
+        let previous = says-previous r (bankCount r) (imageCount r) s (setState u v r) _ state (active r) (omega (arith, s .banks-high)) in
+        rw (all-in r u)
+        (says-active r (bankCount r) (imageCount r) s (setPrevious (active r) (setState u v r)) _ previous u (omega arith))
+      where
+        go : (t : Bool) → cond t acceptedBank valid < 256
+        go true = omega arith
+        go false = omega arith
+
+  module _ (low : active r < bankCount r) (i : ℕ) (hi : i < imageCount r) where
+    marked-says : Told (marked i r) (markedIn i f)
+    unfolding marked
+    marked-says = says-flag r (bankCount r) (imageCount r) s r f told i (active r) 1 hi low (omega arith)
+
+    pub accept-says : Told (cond (allAccepted (marked i r) (active r)) (setState (active r) acceptedBank (marked i r)) (marked i r))
+        (acceptedOf (imageCount r) i f)
+    accept-says =
+        rw (all-reads r (marked i r) (markedIn i f) marked-says (active r) low) (go (allIn (imageCount r) (active r) (markedIn i f)))
+      where
+        go : (t : Bool)
+            → Told (cond t (setState (active r) acceptedBank (marked i r)) (marked i r))
+            (cond t (withState (active r) acceptedBank (markedIn i f)) (markedIn i f))
+        go true =
+            says-state r (bankCount r) (imageCount r) s (marked i r) (markedIn i f) marked-says (active r) acceptedBank
+            (omega (arith, s .banks-high)) (omega arith)
+        go false = marked-says
+
+  pub exchange-says : active r < bankCount r → previous r < bankCount r → Told (setActive (previous r) (setPrevious (active r) r)) (exchanged f)
+  exchange-says low high =
+      let previous-told = says-previous r (bankCount r) (imageCount r) s r f told (active r) (omega (arith, s .banks-high)) in
+      says-active r (bankCount r) (imageCount r) s (setPrevious (active r) r) _ previous-told (previous r) (omega (arith, s .banks-high))

@@ -1,0 +1,7 @@
+-- The proof. Assumes nothing.
+pub mod Crc
+pub mod Places
+pub mod Says
+pub mod Good
+pub mod Carried
+pub mod Calls

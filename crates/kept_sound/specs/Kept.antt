@@ -1,0 +1,29 @@
+-- Every accepted call keeps the record sound (document 01, "Session and calls"; "Power cuts": a new record is what a change writes, so that it
+-- must be sound to be read). r is the bytes of the old record, i an image of it, request the one that Commit is given. Assumes nothing.
+use Prim.Native.Nat.{ℕ, _<_}
+use mathlib.Core.Path.{_≡_}
+use mathlib.Core.Bool.{true}
+use mathlib.Core.List.{List}
+use lib.ListN.{length}
+use Rattle.fields.specs.Number.{Bytes}
+use Rattle.record.specs.Layout.{previous, state, imageCount}
+use Rattle.record.specs.Rules.{invalid, acceptedBank, sound}
+use Rattle.changes.specs.NewRecord.{updateBankOf, begunRecord, committedRecord, endedRecord, acceptedRecord, exchangedRecord}
+
+-- the new record is sound, bytes, and as long as the old one
+pub record Kept (r new : List ℕ) : Type 0 where
+  pub is-sound : sound new ≡ true
+  pub bytes : Bytes new
+  pub long : length new ≡ length r
+
+-- For every sound record. Two calls ask more, which is what they are refused for otherwise: Commit that the bank being staged is 255
+-- (refusal 24), Select previous that the previous bank is 252 (refusal 25). Commit and Accept name an image that the record has (refusal 26)
+pub record KeptSound (r : List ℕ) : Type 0 where
+  pub begin : Kept r (begunRecord r)
+  pub commit : (i request : ℕ) → i < imageCount r → state r (updateBankOf r) ≡ invalid → Kept r (committedRecord i request r)
+  pub end : Kept r (endedRecord r)
+  pub accept : (i : ℕ) → i < imageCount r → Kept r (acceptedRecord i r)
+  pub select-previous : state r (previous r) ≡ acceptedBank → Kept r (exchangedRecord r)
+
+abbrev pub CallsKeepSound : Type 0
+CallsKeepSound = (r : List ℕ) → Bytes r → sound r ≡ true → KeptSound r

@@ -1,0 +1,3 @@
+-- Every accepted call keeps the record sound. Assumes nothing.
+pub mod Fields
+pub mod Kept
