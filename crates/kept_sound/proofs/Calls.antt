@@ -1,8 +1,8 @@
 -- What the record says that each call makes, before its CRC is worked anew. Assumes nothing.
-use mathlib.Core.Path.{_≡_, refl, sym, ap, _∙_}
+use mathlib.Core.Path.{_≡_, refl, sym, _∙_}
 use mathlib.Core.Bool.{Bool, true, false, cond, _&&_, _||_}
 use mathlib.Core.List.{List}
-use Prim.Native.Nat.{ℕ, zero, suc, _+_, _^_, _≤_, _<_}
+use Prim.Native.Nat.{ℕ, zero, suc, _^_, _≤_, _<_}
 use native.Mathlib.Omega.{arith}
 use borrow.Author.Tests.{eqb-true, eqb-false, ltb-true, ltb-false, lt-ltb, le-ltb}
 use lib.Dec.{eqb, ltb}
@@ -11,7 +11,7 @@ use Rattle.record.specs.Layout.{active, previous, bankCount, imageCount}
 use Rattle.record.specs.Rules.{invalid, valid, acceptedBank, allAccepted}
 use Rattle.record.specs.Sized.{Sized}
 use Rattle.alterations.specs.Fields.{setActive, setPrevious, setState, setAccepted}
-use Rattle.changes.specs.NewRecord.{updateBankOf, firstUnaccepted, marked}
+use Rattle.changes.specs.NewRecord.{firstUnaccepted, marked}
 use Rattle.kept_sound.specs.Fields.{Fields, fieldsOf, withState, allIn, begun, committed, ended, markedIn, acceptedOf, exchanged}
 use Rattle.kept_sound.proofs.Says.{Says, says-active, says-previous, says-state, says-flag}
 use Rattle.kept_sound.proofs.Carried.{all-in, all-reads}

@@ -1,24 +1,24 @@
 -- Soundness told by the fields: a record that says what the rules ask, and has a sound record's bytes elsewhere, is sound. Assumes nothing.
 use mathlib.Core.Path.{_≡_, refl, sym, ap, _∙_}
-use mathlib.Core.Bool.{Bool, true, false, not, _&&_}
-use mathlib.Core.Logic.{_⊎_, inl, inr, ⊎-elim}
+use mathlib.Core.Bool.{Bool, true, not, _&&_}
+use mathlib.Core.Logic.{inl, inr}
 use mathlib.Core.List.{List, [], _∷_}
-use Prim.Native.Nat.{ℕ, zero, suc, _+_, _*_, _≤_, _<_}
+use Prim.Native.Nat.{ℕ, _+_, _≤_, _<_}
 use native.Mathlib.Omega.{arith}
 use borrow.Author.Tests.{leb-true, le-leb, lt-ltb, not-true}
-use lib.Dec.{eqb, leb, ltb}
-use lib.ListN.{length, getD}
-use Rattle.fields.specs.Number.{Bytes, le}
+use lib.Dec.{eqb, leb}
+use lib.ListN.{getD}
+use Rattle.fields.specs.Number.{le}
 use Rattle.fields.specs.Guid.{guid, same}
 use Rattle.fields.proofs.Tests.{both}
 use Rattle.fields.proofs.Number.{le-same}
 use Rattle.fields.proofs.Beside.{Apart, apart-each, guid-same}
 use Rattle.record.specs.Every.{below}
-use Rattle.record.specs.Layout.{bankLimit, version, active, previous, size, descriptorOffset, reserved22, state, reserved28, bankCount, reserved33, imageCount, imageEntrySize, bankEntrySize, entryAt, typeGuid, acceptedAt, reservedAt, accepted, reserved}
+use Rattle.record.specs.Layout.{version, active, reserved22, state, reserved28, bankCount, reserved33, imageCount, entryAt, typeGuid, acceptedAt, reservedAt, accepted, reserved}
 use Rattle.record.specs.Rules.{versionRule, bankCountRule, imageCountRule, bankEntrySizeRule, imageEntrySizeRule, sizeRule, descriptorOffsetRule, reservedRule, banksNamedRule, acceptedRule, typeGuidsRule, invalid, stateAllowed, statesRule, allAccepted, bankConsistent, banksRule, crcRule, rules, each, sound}
 use Rattle.record.specs.Sized.{Sized}
 use Rattle.record.proofs.Below.{below-each, below-same}
-use Rattle.record.proofs.Sound.{All, all-of, sound-sized, sound-named}
+use Rattle.record.proofs.Sound.{All, all-of, sound-named}
 use Rattle.kept_sound.specs.Fields.{Fields, fieldsOf, allIn, Outside, Elsewhere}
 use Rattle.kept_sound.proofs.Places.{guid-elsewhere, reserved-elsewhere, header-elsewhere}
 use Rattle.kept_sound.proofs.Says.{Says}
@@ -103,6 +103,9 @@ module _ (r y : List ℕ) (f : Fields) (w : Says r (bankCount r) (imageCount r) 
   guid-stays i =
       guid-same y r (entryAt (bankCount r) i) (w .long) (λ k lt.
       w .stays (entryAt (bankCount r) i + k) (guid-elsewhere (bankCount r) (imageCount r) i k lt))
+
+  pub types-stay : (i : ℕ) → typeGuid y i ≡ typeGuid r i
+  types-stay i = rw banks-stay (guid-stays i)
 
   -- ---- rules 1 to 8 and 11
   rule1 : versionRule y ≡ versionRule r
@@ -204,18 +207,43 @@ module _ (r y : List ℕ) (f : Fields) (w : Says r (bankCount r) (imageCount r) 
     unfolding sound
     sound-of e crc =
         let a : All rules r = all-of rules r e in
-        each-of rules y
-        (rule1 ∙ a .0,
-        (rule2 ∙ a .1 .0,
-        (rule3 ∙ a .1 .1 .0,
-        (rule4 ∙ a .1 .1 .1 .0,
-        (rule5 ∙ a .1 .1 .1 .1 .0,
-        (rule6 ∙ a .1 .1 .1 .1 .1 .0,
-        (rule7 ∙ a .1 .1 .1 .1 .1 .1 .0,
-        (rule8 ∙ a .1 .1 .1 .1 .1 .1 .1 .0,
-        (rule9,
-        (rule10,
-        (rule11 ∙ a .1 .1 .1 .1 .1 .1 .1 .1 .1 .1 .0,
-        (rule12,
-        (rule13,
-        (crc, tt))))))))))))))
+        each-of rules y (
+          rule1 ∙ a .0,
+          (
+            rule2 ∙ a .1 .0,
+            (
+              rule3 ∙ a .1 .1 .0,
+              (
+                rule4 ∙ a .1 .1 .1 .0,
+                (
+                  rule5 ∙ a .1 .1 .1 .1 .0,
+                  (
+                    rule6 ∙ a .1 .1 .1 .1 .1 .0,
+                    (
+                      rule7 ∙ a .1 .1 .1 .1 .1 .1 .0,
+                      (
+                        rule8 ∙ a .1 .1 .1 .1 .1 .1 .1 .0,
+                        (
+                          rule9,
+                          (
+                            rule10,
+                            (
+                              rule11 ∙ a .1 .1 .1 .1 .1 .1 .1 .1 .1 .1 .0,
+                              (
+                                rule12,
+                                (
+                                  rule13,
+                                  (crc, tt),
+                                ),
+                              ),
+                            ),
+                          ),
+                        ),
+                      ),
+                    ),
+                  ),
+                ),
+              ),
+            ),
+          ),
+        )

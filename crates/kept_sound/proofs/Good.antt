@@ -5,13 +5,13 @@ use mathlib.Core.Logic.{⊎-elim}
 use Prim.Native.Nat.{ℕ, zero, suc, _+_, _%_, _≤_, _<_}
 use native.Mathlib.Nat.{mod-lt, mod-eq-of-lt, mod-self}
 use native.Mathlib.Omega.{arith}
-use borrow.Author.Tests.{eqb-true, eqb-false, eq-eqb, ne-eqb, lt-ltb}
-use lib.Dec.{eqb, ltb}
-use Rattle.fields.proofs.Tests.{no-true, both, le-or-lt}
+use borrow.Author.Tests.{eqb-true, eq-eqb, ne-eqb, lt-ltb}
+use lib.Dec.{eqb}
+use Rattle.fields.proofs.Tests.{no-true, le-or-lt}
 use Rattle.record.specs.Every.{below}
 use Rattle.record.specs.Layout.{updateBank}
 use Rattle.record.specs.Rules.{invalid, valid, acceptedBank, stateKnown, stateAllowed}
-use Rattle.record.proofs.Below.{below-each, below-same}
+use Rattle.record.proofs.Below.{below-each}
 use Rattle.kept_sound.specs.Fields.{Fields, withState, withFlag, allIn, begun, committed, ended, markedIn, acceptedOf, exchanged}
 
 -- rule 13 for one bank: its state, and whether all its images are accepted

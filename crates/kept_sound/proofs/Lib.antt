@@ -5,3 +5,5 @@ pub mod Says
 pub mod Good
 pub mod Carried
 pub mod Calls
+pub mod Kept
+pub mod Again

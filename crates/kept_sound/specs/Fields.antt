@@ -6,10 +6,12 @@ use mathlib.Core.Logic.{_⊎_}
 use mathlib.Core.Bool.{Bool, true, cond, _&&_}
 use mathlib.Core.List.{List}
 use lib.Dec.{eqb}
-use lib.ListN.{length, getD}
+use lib.ListN.{getD}
+use Rattle.fields.specs.Number.{Bytes}
 use Rattle.record.specs.Every.{below}
-use Rattle.record.specs.Layout.{bankLimit, crcAt, activeAt, previousAt, stateAt, acceptedAt, active, previous, state, bankCount, imageCount, accepted}
-use Rattle.record.specs.Rules.{invalid, valid, acceptedBank}
+use Rattle.record.specs.Layout.{bankLimit, crcAt, activeAt, previousAt, stateAt, acceptedAt, active, previous, state, bankCount, imageCount, typeGuid, accepted}
+use Rattle.record.specs.Rules.{invalid, valid, acceptedBank, sound}
+use Rattle.changes.specs.NewRecord.{updateBankOf, begunRecord, committedRecord, endedRecord, acceptedRecord, exchangedRecord}
 
 -- the active bank, the previous one, the state of each bank, and whether each image is accepted in each bank
 pub record Fields : Type 0 where
@@ -94,10 +96,24 @@ pub record Elsewhere (banks images k : ℕ) : Type 0 where
   pub off-states : Outside (stateAt 0) bankLimit k
   pub off-flags : (i b : ℕ) → i < images → b < banks → Outside (acceptedAt banks i b) 4 k
 
--- the new record read: it has those fields, and each byte elsewhere is the old record's
+-- the new record read: it has those fields; each byte elsewhere is the old record's, so it has as many banks and images, of the same types
 pub record Reads (r new : List ℕ) (f : Fields) : Type 0 where
   pub active-is : active new ≡ f .active-bank
   pub previous-is : previous new ≡ f .previous-bank
   pub state-is : (b : ℕ) → b < bankLimit → state new b ≡ f .states b
   pub flag-is : (i b : ℕ) → i < imageCount r → b < bankCount r → accepted new i b ≡ f .flags i b
   pub stays : (k : ℕ) → Elsewhere (bankCount r) (imageCount r) k → getD new k 0 ≡ getD r k 0
+  pub banks-is : bankCount new ≡ bankCount r
+  pub images-is : imageCount new ≡ imageCount r
+  pub type-is : (i : ℕ) → typeGuid new i ≡ typeGuid r i
+
+-- the record that each call makes, read
+pub record FieldsMade (r : List ℕ) : Type 0 where
+  pub begin : Reads r (begunRecord r) (begun (updateBankOf r) (fieldsOf r))
+  pub commit : (i request : ℕ) → i < imageCount r → Reads r (committedRecord i request r) (committed i request (updateBankOf r) (fieldsOf r))
+  pub end : Reads r (endedRecord r) (ended (imageCount r) (updateBankOf r) (fieldsOf r))
+  pub accept : (i : ℕ) → i < imageCount r → Reads r (acceptedRecord i r) (acceptedOf (imageCount r) i (fieldsOf r))
+  pub select-previous : Reads r (exchangedRecord r) (exchanged (fieldsOf r))
+
+abbrev pub CallsMake : Type 0
+CallsMake = (r : List ℕ) → Bytes r → sound r ≡ true → FieldsMade r

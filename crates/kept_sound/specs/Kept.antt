@@ -6,7 +6,7 @@ use mathlib.Core.Bool.{true}
 use mathlib.Core.List.{List}
 use lib.ListN.{length}
 use Rattle.fields.specs.Number.{Bytes}
-use Rattle.record.specs.Layout.{previous, state, imageCount}
+use Rattle.record.specs.Layout.{active, previous, state, imageCount, accepted}
 use Rattle.record.specs.Rules.{invalid, acceptedBank, sound}
 use Rattle.changes.specs.NewRecord.{updateBankOf, begunRecord, committedRecord, endedRecord, acceptedRecord, exchangedRecord}
 
@@ -27,3 +27,14 @@ pub record KeptSound (r : List ℕ) : Type 0 where
 
 abbrev pub CallsKeepSound : Type 0
 CallsKeepSound = (r : List ℕ) → Bytes r → sound r ≡ true → KeptSound r
+
+-- What Commit asks of the bank being staged holds after Begin and after every Commit. And "Accepting an accepted image changes nothing in the
+-- record"
+pub record Follows (r : List ℕ) : Type 0 where
+  pub begin-stages : state (begunRecord r) (updateBankOf (begunRecord r)) ≡ invalid
+  pub commit-stages : (i request : ℕ) → i < imageCount r → state r (updateBankOf r) ≡ invalid
+      → state (committedRecord i request r) (updateBankOf (committedRecord i request r)) ≡ invalid
+  pub accept-again : (i : ℕ) → i < imageCount r → accepted r i (active r) ≡ 1 → acceptedRecord i r ≡ r
+
+abbrev pub CallsFollow : Type 0
+CallsFollow = (r : List ℕ) → Bytes r → sound r ≡ true → Follows r
