@@ -215,7 +215,7 @@ entry-is a = go (soundCopy (copy0 a)) (soundCopy (copy1 a)) (recordsEqual a) ∙
     go false true e = refl
     go false false e = refl
 
-cut-is : (a new : List ℕ) (n : ℕ) → general.changeCut version2 planned a new n ≡ cut a new n
+pub cut-is : (a new : List ℕ) (n : ℕ) → general.changeCut version2 planned a new n ≡ cut a new n
 unfolding general.changeCut
 cut-is a new n = ap (λ (ss : List Store). afterCut a ss n) (change-is a new)
 

@@ -1,0 +1,4 @@
+-- The proof. Assumes nothing.
+pub mod Laid
+pub mod Changed
+pub mod Events
