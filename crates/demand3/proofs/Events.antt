@@ -36,14 +36,20 @@ use Rattle.demand3.specs.Demand3.{Accepted, listOf, BothHold, recordRead
 use Rattle.demand3.proofs.Laid.{read-back}
 use Rattle.demand3.proofs.Changed.{no-refusal}
 
--- ---- two sound and equal copies hold the record read
-pub both-hold : (a r : List ℕ) → soundAndEqual a ≡ true → recordRead a ≡ r → BothHold a r
-unfolding soundAndEqual recordsEqual sourceOf readFrom
-both-hold a r e is =
+-- ---- two sound and equal copies hold one record, the one read
+pub both-held : (a : List ℕ) → soundAndEqual a ≡ true → BothHold a (recordOf (copy0 a))
+unfolding soundAndEqual recordsEqual
+both-held a e =
     let p = both (soundCopy (copy0 a) && soundCopy (copy1 a)) (recordsEqual a) e in
     let q = both (soundCopy (copy0 a)) (soundCopy (copy1 a)) (p .0) in
-    let z : recordOf (copy0 a) ≡ r = rw (q .0) at is in
-    record { sound0 = q .0; is0 = z; sound1 = q .1; is1 = sym (same-true (recordOf (copy0 a)) (recordOf (copy1 a)) (p .1)) ∙ z }
+    record { sound0 = q .0; is0 = refl; sound1 = q .1; is1 = sym (same-true (recordOf (copy0 a)) (recordOf (copy1 a)) (p .1)) }
+
+pub both-hold : (a r : List ℕ) → soundAndEqual a ≡ true → recordRead a ≡ r → BothHold a r
+unfolding sourceOf readFrom
+both-hold a r e is =
+    let h : BothHold a (recordOf (copy0 a)) = both-held a e in
+    let z : recordOf (copy0 a) ≡ r = rw (h .sound0) at is in
+    record { sound0 = h .sound0; is0 = z; sound1 = h .sound1; is1 = h .is1 ∙ z }
 
 -- ---- what repair answers
 at-source : (c : Source) (a s : List ℕ) → c ≢ Neither → repairedAt c a s ≡ entry.listed (entry.repairStores c a) s

@@ -2,3 +2,4 @@
 pub mod Laid
 pub mod Changed
 pub mod Events
+pub mod Demand3
