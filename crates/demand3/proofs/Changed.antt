@@ -17,7 +17,7 @@ use Rattle.record.specs.Layout.{areaSize, copySize, recordOf, copy0, copy1, pre
 use Rattle.record.specs.Rules.{invalid, acceptedBank, sound, soundCopy}
 use Rattle.copies.specs.Copies.{recordsEqual, soundAndEqual}
 use Rattle.stores.specs.Stores.{storeNumbers}
-use Rattle.changes.specs.NewRecord.{updateBankOf, imageWith, begunRecord, committedRecord, endedRecord, acceptedRecord, exchangedRecord}
+use Rattle.changes.specs.NewRecord.{updateBankOf, imageWith, committedRecord, endedRecord, acceptedRecord, exchangedRecord}
 use Rattle.kept_sound.specs.Kept.{Kept, KeptSound}
 use Rattle.kept_sound.proofs.Kept.{kept-sound}
 use Rattle.session.specs.declared.Session.{Session}
@@ -118,7 +118,7 @@ module _ (a s : List ℕ) where
     unfolding calls.commitLine newRecord
     commit-made (Staging bank set) g request fits e =
         let p = image-found (Staging bank set) g
-            (λ i. changedTo (Staging bank (joined i set)) a (committedRecord i request (held a)) s) e in
+        (λ i. changedTo (Staging bank (joined i set)) a (committedRecord i request (held a)) s) e in
         record {
           next = Staging bank (joined (imageWith g (held a)) set);
           is = p .1;

@@ -1,34 +1,31 @@
 -- Demand 3 of start-up, repair and the six calls. Assumes nothing.
-use mathlib.Core.Path.{_≡_, refl, sym, ap, subst, _∙_}
-use mathlib.Core.Logic.{_≢_, inl, inr, ⊎-elim}
-use mathlib.Core.Bool.{true, cond}
-use mathlib.Core.List.{List, [], _∷_, _++_}
+use mathlib.Core.Path.{_≡_, sym, ap, _∙_}
+use mathlib.Core.Logic.{inl, inr, ⊎-elim}
+use mathlib.Core.Bool.{true}
+use mathlib.Core.List.{List, [], _∷_}
 use Prim.Native.Nat.{ℕ, _*_, _≤_}
 use native.Mathlib.Omega.{arith}
 use lib.ListN.{length, take}
 use lib.Seq.{take-length}
 use Rattle.fields.specs.Number.{Bytes}
-use Rattle.record.specs.Layout.{areaSize, recordOf, copy0, copy1}
+use Rattle.record.specs.Layout.{areaSize, recordOf, copy0}
 use Rattle.record.specs.Rules.{sound}
 use Rattle.copies.specs.Copies.{sourceOf, soundAndEqual}
-use Rattle.copies.specs.declared.Source.the-variants.{Neither}
 use Rattle.stores.specs.Stores.{Store, storeNumbers}
 use Rattle.alterations.specs.ChangeStores.{changeStores}
 use Rattle.session.specs.declared.Session.{Session}
 use Rattle.session.specs.declared.Session.the-variants.{Restart}
 use Rattle.session.specs.Outcome.{Decision}
-use Rattle.session.specs.Calls.{Result, held, changedTo}
+use Rattle.session.specs.Calls.{held, changedTo}
 use Rattle.repair.specs.Repair.{repaired}
 use Rattle.repair.specs.Repair as entry
 use Rattle.power_cuts.specs.Area.{afterStores, afterCut}
-use Rattle.power_cuts.specs.Format.{over}
-use Rattle.power_cuts.specs.Version2.{version2, planned, otherStores, repairStores, Reads, cut, Survives2}
+use Rattle.power_cuts.specs.Version2.{version2, repairStores, cut, Survives2}
 use Rattle.power_cuts.specs.Offsets.{InEither}
 use Rattle.power_cuts.proofs.Runs.{stores-bytes}
 use Rattle.power_cuts.proofs.Version2.{area-of, both-of, cut-is, power-cuts-2, any-change}
 use Rattle.power_cuts.proofs.Offsets.{each-weaken, store-rules}
-use Rattle.demand3.specs.Demand3.{Call, resultOf, Accepted, listOf, Listed, BothHold, newRecord, recordRead, Event, repairWith, afterDecision,
-    afterEvent, afterList, Finished, Lasts, InRange, Survives, Repairs, Demand3}
+use Rattle.demand3.specs.Demand3.{Call, resultOf, Accepted, listOf, Listed, BothHold, newRecord, recordRead, Event, repairWith, afterDecision, afterEvent, afterList, InRange, Survives, Repairs, Demand3}
 use Rattle.demand3.proofs.Laid.{read-back, whole}
 use Rattle.demand3.proofs.Changed.{Changed, changed}
 use Rattle.demand3.proofs.Events.{both-held, both-hold, Mends, mends, accepted-is, repair-lists, Good, lasts}

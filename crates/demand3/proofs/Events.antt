@@ -1,13 +1,13 @@
 -- Start-ups and repairs by the entries' own clauses are those of the theorem in crates/power_cuts, so that what it says of a list holds of them.
 -- Assumes nothing.
 use mathlib.Core.Path.{_≡_, refl, sym, ap, subst, _∙_}
-use mathlib.Core.Logic.{_≢_, _⊎_, inl, inr, ⊎-elim}
+use mathlib.Core.Logic.{_≢_, inl, inr, ⊎-elim}
 use mathlib.Core.Bool.{Bool, true, false, cond, _&&_}
 use mathlib.Core.List.{List, [], _∷_, map}
 use Prim.Native.Nat.{ℕ, _≤_, _<_}
 use native.Mathlib.Omega.{arith}
 use borrow.Author.Tests.{eq-eqb, eqb-true, le-leb, lt-leb, leb-true, lt-ltb, le-ltb}
-use lib.Dec.{eqb, leb, ltb}
+use lib.Dec.{eqb, leb}
 use lib.ListN.{length, take}
 use Rattle.fields.specs.Number.{Bytes}
 use Rattle.fields.proofs.Tests.{both, le-or-lt}
@@ -26,13 +26,26 @@ use Rattle.session.specs.declared.Session.the-variants.{Restart}
 use Rattle.start_up.specs.StartUp.{startUp}
 use Rattle.repair.specs.Repair.{repaired, repairedAt}
 use Rattle.repair.specs.Repair as entry
-use Rattle.power_cuts.specs.Area.{afterStores, afterCut}
+use Rattle.power_cuts.specs.Area.{afterCut}
 use Rattle.power_cuts.specs.Theorem as general
 use Rattle.power_cuts.specs.Version2.{version2, planned, repairStores, Reads}
 use Rattle.power_cuts.proofs.Runs.{stores-bytes}
 use Rattle.power_cuts.proofs.Version2.{area-of, read-some, power-cuts-2, any-change}
-use Rattle.demand3.specs.Demand3.{Accepted, listOf, BothHold, recordRead, Event, startUpWith, repairWith, afterDecision, afterEvent, afterList,
-    Finishes, Finished, Lasts}
+use Rattle.demand3.specs.Demand3.{
+  Accepted,
+  listOf,
+  BothHold,
+  recordRead,
+  Event,
+  startUpWith,
+  repairWith,
+  afterDecision,
+  afterEvent,
+  afterList,
+  Finishes,
+  Finished,
+  Lasts,
+}
 use Rattle.demand3.proofs.Laid.{read-back}
 use Rattle.demand3.proofs.Changed.{no-refusal}
 

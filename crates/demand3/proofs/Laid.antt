@@ -1,13 +1,11 @@
 -- A list of stores that was laid at a slice's front is read back whole. Assumes nothing.
-use mathlib.Core.Path.{_≡_, refl, sym, ap, _∙_}
+use mathlib.Core.Path.{_≡_, refl, sym, ap}
 use mathlib.Core.List.{List, [], _∷_, _++_}
 use Prim.Native.Nat.{ℕ, _*_, _≤_}
-use native.Mathlib.Omega.{arith}
 use lib.ListN.{length, drop}
 use Rattle.stores.specs.Stores.{Store, numbersOf, withList}
 use Rattle.session.specs.declared.Session.{Session}
 use Rattle.session.specs.Outcome.{acceptedWith}
-use Rattle.session.specs.Calls.{Result}
 use Rattle.demand3.specs.Demand3.{pairs, listOf, Listed}
 
 pairs-numbers : (ss : List Store) (t : List ℕ) → pairs (length ss) (numbersOf ss ++ t) ≡ ss

@@ -3,3 +3,4 @@ pub mod Laid
 pub mod Changed
 pub mod Events
 pub mod Demand3
+pub mod Sample
