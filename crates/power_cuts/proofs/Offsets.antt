@@ -29,7 +29,7 @@ each-shifted : (P : Store → Type 0) (base : ℕ) (ss ts : List Store) → Each
 each-shifted P base [] ts p q = q
 each-shifted P base (s ∷ ss) ts p q = (p .0, each-shifted P base ss ts (p .1) q)
 
-each-weaken : (P Q : Store → Type 0) (ss : List Store) → ((s : Store) → P s → Q s) → Each P ss → Each Q ss
+pub each-weaken : (P Q : Store → Type 0) (ss : List Store) → ((s : Store) → P s → Q s) → Each P ss → Each Q ss
 each-weaken P Q [] f p = tt
 each-weaken P Q (s ∷ ss) f p = (f s (p .0), each-weaken P Q ss f (p .1))
 

@@ -17,6 +17,7 @@ use Rattle.record.specs.Every.{below}
 use Rattle.record.specs.Layout.{areaSize}
 use Rattle.record.specs.Rules as rule
 use Rattle.copies.specs.Copies.{soundAndEqual}
+use Rattle.power_cuts.specs.Theorem.{BothHold}
 use Rattle.power_cuts.specs.Version2.{version2}
 use Rattle.power_cuts.proofs.Copy.{Holds, starts-holds}
 use Rattle.power_cuts.proofs.Parts.{Parts, settled-both}
@@ -88,8 +89,10 @@ pub sample-area-bytes : Bytes sampleArea
 unfolding sampleArea
 sample-area-bytes = append-bytes sampleCopy sampleCopy copy-bytes copy-bytes
 
+pub sample-both : BothHold version2 sampleRecord sampleArea
+sample-both =
+    settled-both version2 sampleRecord sampleArea
+    (record { x = sampleCopy; y = sampleCopy; parts = sample-parts; holds0 = copy-holds; holds1 = copy-holds })
+
 pub sample-equal : soundAndEqual sampleArea ≡ true
-sample-equal =
-    of-both sampleArea sampleRecord
-    (settled-both version2 sampleRecord sampleArea
-    (record { x = sampleCopy; y = sampleCopy; parts = sample-parts; holds0 = copy-holds; holds1 = copy-holds }))
+sample-equal = of-both sampleArea sampleRecord sample-both

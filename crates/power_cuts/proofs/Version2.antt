@@ -35,7 +35,7 @@ use Rattle.power_cuts.specs.Format as format
 use Rattle.power_cuts.specs.Theorem.{PowerCuts, Event}
 use Rattle.power_cuts.specs.Theorem as general
 use Rattle.repair.specs.Repair as entry
-use Rattle.power_cuts.specs.Version2.{recordLength, version2, planned, otherStores, repairStores, Reads, left, cut, Lasts2, Survives2, Demand3}
+use Rattle.power_cuts.specs.Version2.{recordLength, version2, planned, otherStores, repairStores, Reads, left, cut, Lasts2, Survives2, AnyChange}
 use Rattle.alterations.specs.ChangeStores.{copyStores, changeStores}
 use Rattle.power_cuts.proofs.Plan.{plan-writes}
 use Rattle.power_cuts.proofs.Theorem.{power-cuts}
@@ -87,7 +87,7 @@ version2-laws =
 pub planned-laws : WriterLaws version2 planned
 planned-laws = plan-writes version2 version2-laws
 
--- demand 3 at record version 2
+-- the theorem at record version 2
 pub power-cuts-2 : PowerCuts version2 planned
 power-cuts-2 = power-cuts version2 version2-laws planned planned-laws
 
@@ -120,8 +120,11 @@ from-shown Copy0 a h = refl
 from-shown Copy1 a h = refl
 from-shown Neither a h = absurd (h refl)
 
+pub read-some : (a : List ℕ) → sourceOf a ≢ Neither → general.recordRead version2 a ≡ some (readFrom (sourceOf a) a)
+read-some a h = read-shown a ∙ from-shown (sourceOf a) a h
+
 read-of : (a r : List ℕ) → Reads a r → general.recordRead version2 a ≡ some r
-read-of a r h = read-shown a ∙ from-shown (sourceOf a) a (h .one-sound) ∙ ap {B = Option (List ℕ)} (λ (l : List ℕ). some l) (h .is)
+read-of a r h = read-some a (h .one-sound) ∙ ap {B = Option (List ℕ)} (λ (l : List ℕ). some l) (h .is)
 
 -- start-up answers by the record read alone
 abbrev startedOf : Option (List ℕ) → ℕ → Outcome
@@ -149,7 +152,7 @@ reads-of a r l e =
     }
 
 -- two sound and equal copies
-both-of : (a : List ℕ) → soundAndEqual a ≡ true → general.BothHold version2 (recordOf (copy0 a)) a
+pub both-of : (a : List ℕ) → soundAndEqual a ≡ true → general.BothHold version2 (recordOf (copy0 a)) a
 unfolding soundAndEqual recordsEqual format.soundCopy format.recordOf version2 soundCopy recordOf
 both-of a e =
     let p = both (soundCopy (copy0 a) && soundCopy (copy1 a)) (same (recordOf (copy0 a)) (recordOf (copy1 a))) e in
@@ -212,7 +215,7 @@ entry-is a = go (soundCopy (copy0 a)) (soundCopy (copy1 a)) (recordsEqual a) ∙
     go false true e = refl
     go false false e = refl
 
-cut-is : (a new : List ℕ) (n : ℕ) → general.changeCut version2 planned a new n ≡ cut a new n
+pub cut-is : (a new : List ℕ) (n : ℕ) → general.changeCut version2 planned a new n ≡ cut a new n
 unfolding general.changeCut
 cut-is a new n = ap (λ (ss : List Store). afterCut a ss n) (change-is a new)
 
@@ -268,21 +271,21 @@ repair-ends : (a : List ℕ) → length a ≡ areaSize → Bytes a → sourceOf 
     → afterStores a (repairStores a) ≡ format.over (readFrom (sourceOf a) a) (copy0 a) ++ format.over (readFrom (sourceOf a) a) (copy1 a)
 unfolding afterCut version2
 repair-ends a l b s =
-    let e : general.recordRead version2 a ≡ some (readFrom (sourceOf a) a) = read-shown a ∙ from-shown (sourceOf a) a s in
+    let e : general.recordRead version2 a ≡ some (readFrom (sourceOf a) a) = read-some a s in
     ap (afterStores a) (sym (repair-is a))
     ∙ ap (afterStores a) (sym (take-length (general.repairStores version2 planned a)))
     ∙ power-cuts-2 .repair a (readFrom (sourceOf a) a) (length (general.repairStores version2 planned a)) (area-of a l b) e (omega arith)
 
-pub demand3 : Demand3
+pub any-change : AnyChange
 unfolding version2
-demand3 =
+any-change =
     record {
       change = λ a new n es l b e bn sn.
           survives-of a new n es
           (λ m. power-cuts-2 .change a (recordOf (copy0 a)) new m es (area-of a l b) (both-of a e) bn sn .kept ∙ l)
           (power-cuts-2 .change a (recordOf (copy0 a)) new n es (area-of a l b) (both-of a e) bn sn);
       anywhere = λ a es l b s.
-          let e : general.recordRead version2 a ≡ some (readFrom (sourceOf a) a) = read-shown a ∙ from-shown (sourceOf a) a s in
+          let e : general.recordRead version2 a ≡ some (readFrom (sourceOf a) a) = read-some a s in
           lasts-of a (readFrom (sourceOf a) a) es l e (power-cuts-2 .anywhere a (readFrom (sourceOf a) a) es (area-of a l b) e);
       repairs = repair-is;
       entry-lists = entry-is;

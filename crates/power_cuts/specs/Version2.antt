@@ -1,4 +1,4 @@
--- Record version 2 as a format, the product's own list of stores as a writer, and demand 3 of them in the product's own definitions: the
+-- Record version 2 as a format, the product's own list of stores as a writer, and the theorem of them in the product's own definitions: the
 -- sound-copy rule of crates/record, the record read of crates/copies, start-up's answer of crates/start_up, the plan of crates/stores. a is the
 -- bytes of an area, new those of the record that a change makes. Assumes nothing.
 use Prim.Native.Nat.{ℕ, _≤_}
@@ -74,10 +74,10 @@ pub record Survives2 (a new : List ℕ) (n : ℕ) (es : List Event) : Type 0 whe
   pub later : (m : ℕ) → n ≤ m → Reads (cut a new n) new → Reads (cut a new m) new
   pub lasts : Lasts2 (cut a new n) es
 
--- Demand 3 at record version 2, for any change to a sound record. The repairs of a list are those that
--- the clause of the entry `repair` lists (`repairs`, `entry-lists`), and
--- one with all its stores done leaves the record read in both copies and every other byte as before (`repair`)
-pub record Demand3 : Type 0 where
+-- The theorem at record version 2, for any change to a sound record; crates/demand3 has it of the six calls. The repairs of a list are those
+-- that the clause of the entry `repair` lists (`repairs`, `entry-lists`), and one with all its stores done leaves the record read in both
+-- copies and every other byte as before (`repair`)
+pub record AnyChange : Type 0 where
   pub change : (a new : List ℕ) (n : ℕ) (es : List Event) → length a ≡ areaSize → Bytes a → soundAndEqual a ≡ true → Bytes new
       → sound new ≡ true → Survives2 a new n es
   pub anywhere : (a : List ℕ) (es : List Event) → length a ≡ areaSize → Bytes a → sourceOf a ≢ Neither → Lasts2 a es
