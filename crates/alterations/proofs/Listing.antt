@@ -1,8 +1,8 @@
 -- The list of a change: what its functions are asked, and what they have listed at each way out. Assumes nothing.
-use mathlib.Core.Path.{_≡_, refl, sym, ap, _∙_}
-use mathlib.Core.Bool.{Bool, true, false, cond, _&&_}
+use mathlib.Core.Path.{_≡_, sym, _∙_}
+use mathlib.Core.Bool.{true, false, _&&_}
 use mathlib.Core.List.{List, [], _++_}
-use Prim.Native.Nat.{ℕ, _+_, _*_, _/_, _≤_}
+use Prim.Native.Nat.{ℕ, _+_, _/_, _≤_}
 use native.Mathlib.Omega.{arith}
 use lib.ListN.{length}
 use Rattle.fields.specs.Guid.{same}
@@ -14,7 +14,7 @@ use Rattle.record.specs.Sized.{Sized}
 use Rattle.record.proofs.Sound.{sound-sized}
 use Rattle.record.proofs.Sizes.{in-words, record-high}
 use Rattle.copies.specs.Copies.{recordsEqual, soundAndEqual}
-use Rattle.stores.specs.Stores.{Store, plan, withList}
+use Rattle.stores.specs.Stores.{Store, plan}
 use Rattle.stores.specs.Added.{Added, Listable}
 use Rattle.stores.proofs.Laid.{added-then, added-all, withList-none}
 use Rattle.alterations.specs.ChangeStores.{copyStores, changeStores}

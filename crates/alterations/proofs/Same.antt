@@ -1,5 +1,5 @@
 -- Whether two lists of whole words are the same, word by word. Assumes nothing.
-use mathlib.Core.Path.{_≡_, refl, sym, ap, _∙_}
+use mathlib.Core.Path.{_≡_, sym, ap, _∙_}
 use mathlib.Core.Bool.{true, false}
 use mathlib.Core.List.{List}
 use mathlib.Core.Logic.{⊎-elim}
@@ -7,8 +7,7 @@ use Prim.Native.Nat.{ℕ, _+_, _*_, _/_, _≤_}
 use native.Mathlib.Omega.{arith}
 use lib.ListN.{length}
 use Rattle.fields.specs.Guid.{same}
-use Rattle.fields.specs.Number.{le}
-use Rattle.fields.specs.Number.{Bytes}
+use Rattle.fields.specs.Number.{Bytes, le}
 use Rattle.fields.proofs.Bytes.{words-same}
 use Rattle.fields.proofs.Guid.{same-refl, same-false}
 use Rattle.fields.proofs.Tests.{le-or-lt}

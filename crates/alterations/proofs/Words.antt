@@ -1,22 +1,19 @@
 -- The words of an altered record. Assumes nothing.
-use mathlib.Core.Path.{_≡_, refl, sym, ap, _∙_}
+use mathlib.Core.Path.{_≡_, refl, ap, _∙_}
 use mathlib.Core.List.{List}
 use mathlib.Core.Logic.{_⊎_, inl, inr, ⊎-elim}
-use Prim.Native.Nat.{ℕ, zero, suc, _+_, _*_, _-_, _/_, _%_, _<_, _≤_}
+use Prim.Native.Nat.{ℕ, zero, suc, _+_, _*_, _/_, _<_, _≤_}
 use native.Mathlib.Omega.{arith}
-use lib.ListN.{length, drop, getD}
-use Rattle.fields.specs.Number.{le, bytes, put}
+use lib.ListN.{length, drop}
+use Rattle.fields.specs.Number.{Bytes, le, bytes, put}
 use Rattle.fields.proofs.Tests.{le-or-lt}
-use Rattle.fields.proofs.Number.{le-same}
 use Rattle.fields.proofs.Put.{read-back}
-use Rattle.fields.specs.Number.{Bytes}
-use Rattle.fields.proofs.Bytes.{bytes-small, put-bytes, word-length, word-byte, word-apart}
+use Rattle.fields.proofs.Bytes.{bytes-small, put-bytes, word-length, word-apart}
 use Rattle.crc.specs.Crc.{crc32Of}
-use Rattle.record.specs.Layout.{versionAt, stateAt, bankCount, imageCount, recordSize, acceptedAt}
-use Rattle.record.specs.Sized.{Sized}
+use Rattle.record.specs.Layout.{versionAt, bankCount, imageCount, recordSize, acceptedAt}
 use Rattle.record.proofs.Sizes.{header-in}
 use Rattle.alterations.specs.Fields.{setActive, setPrevious, setAccepted, withCrc}
-use Rattle.alterations.specs.Altered.{flagged, alteredBy, newRecord, Within, Alterable}
+use Rattle.alterations.specs.Altered.{flagged, alteredBy, newRecord, Alterable}
 use Rattle.alterations.specs.declared.Alteration.{Alteration}
 use Rattle.alterations.proofs.Places.{words-apart, place-in, place-before, place-apart}
 

@@ -1,11 +1,11 @@
 -- `list_change` meets its contract: nothing where the record stays, else copy 0 and then copy 1. Assumes nothing.
-use mathlib.Core.Path.{_≡_, refl, sym, ap, _∙_}
-use Prim.Native.Nat.{ℕ, _≤_}
+use mathlib.Core.Path.{_≡_, sym, _∙_}
+use Prim.Native.Nat.{_≤_}
 use native.Mathlib.Omega.{arith}
 use borrow.Author.Needs.{needs}
-use lib.ListN.{length, take, drop, length-drop}
+use lib.ListN.{length, drop, length-drop}
 use lib.Seq.{length-take-le}
-use Rattle.record.specs.Layout.{copySize, recordOf, copy0, copy1}
+use Rattle.record.specs.Layout.{recordOf, copy0, copy1}
 use Rattle.record.proofs.Copies.{record-long}
 use Rattle.alterations.proofs.Listing.{alterable, listable, short, listed-none, listed-both}
 use Rattle.alterations.proofs.list_change.Statement.{statement}

@@ -1,14 +1,13 @@
 -- `new_crc` meets its contract. The loop's invariant: the new record's bytes from o on, taken into the register at hand, give what all from
 -- 4 on give. Assumes nothing.
 use mathlib.Core.Path.{_≡_, refl, sym, ap, _∙_}
-use mathlib.Core.List.{List, [], _++_}
-use Prim.Native.Nat.{ℕ, _+_, _*_, _-_, _/_, _<_, _≤_}
+use mathlib.Core.List.{List, []}
+use Prim.Native.Nat.{ℕ, _+_, _*_, _-_, _/_, _≤_}
 use native.Mathlib.Omega.{arith}
 use borrow.Author.Needs.{needs}
 use lib.Bits.{bitXor}
 use lib.ListN.{length, drop, drop-of-length-le}
-use Rattle.fields.specs.Number.{le, bytes}
-use Rattle.fields.specs.Number.{Bytes}
+use Rattle.fields.specs.Number.{Bytes, le, bytes}
 use Rattle.fields.proofs.Bytes.{drop-number}
 use Rattle.crc.specs.Crc.{withBytes, allOnes, crc32Of}
 use Rattle.crc.proofs.Register.{withBytes-append}

@@ -1,5 +1,6 @@
--- `new_word` meets its contract: the header's words, and the entries'. Assumes nothing.
-use mathlib.Core.Path.{_≡_, refl, sym, ap, _∙_}
+-- `new_word` meets its contract: the header's words, and the entries'. That a field of x fits its type stands in
+-- `good`, field by field. Assumes nothing.
+use mathlib.Core.Path.{_≡_, sym, _∙_}
 use Prim.Native.Nat.{ℕ, _+_, _*_, _/_, _<_, _≤_}
 use native.Mathlib.Omega.{arith}
 use borrow.Author.Needs.{needs}

@@ -1,11 +1,10 @@
 -- `unchanged` meets its contract. The loop's invariant: the words below o are the same. Assumes nothing.
-use mathlib.Core.Path.{_≡_, refl, sym, ap, _∙_}
-use Prim.Native.Nat.{ℕ, _+_, _*_, _-_, _/_, _<_, _≤_}
+use mathlib.Core.Path.{_≡_, refl, sym, _∙_}
+use Prim.Native.Nat.{_*_, _-_, _/_, _≤_}
 use native.Mathlib.Omega.{arith}
 use borrow.Author.Needs.{needs}
 use lib.ListN.{length}
-use Rattle.fields.specs.Number.{le}
-use Rattle.fields.specs.Number.{Bytes}
+use Rattle.fields.specs.Number.{Bytes, le}
 use Rattle.record.specs.Layout.{imageCount}
 use Rattle.record.proofs.Sizes.{in-words, record-high}
 use Rattle.alterations.specs.Altered.{newRecord}

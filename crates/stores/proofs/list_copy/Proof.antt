@@ -1,8 +1,7 @@
 -- `list_copy` meets its contract: the version spoilt, the words that differ, the version set right. Assumes nothing.
-use Prim.Native.Nat.{ℕ, _+_, _-_, _/_}
+use Prim.Native.Nat.{_+_, _-_, _/_}
 use lib.ListN.{length}
 use mathlib.Core.List.{List, [], _∷_, _++_}
-use mathlib.Core.Path.{_≡_}
 use borrow.Author.Needs.{needs}
 use Rattle.stores.proofs.Laid.{added-then, stored-one, plan-parts}
 use Rattle.stores.specs.Added.{Added, stored}

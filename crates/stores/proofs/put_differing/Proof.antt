@@ -1,8 +1,6 @@
 -- `put_differing` meets its contract. Assumes nothing.
-use mathlib.Core.Path.{_≡_, refl, sym, ap, _∙_}
 use native.Mathlib.Omega.{arith}
 use borrow.Author.Needs.{needs}
-use Rattle.stores.specs.Added.{Added, wordStore}
 use Rattle.stores.proofs.Laid.{added-none, word-equal, word-differs}
 use Rattle.stores.proofs.put_differing.Statement.{statement}
 use Rattle.stores.proofs.put_differing.Tie as tie

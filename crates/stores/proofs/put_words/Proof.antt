@@ -1,13 +1,13 @@
 -- `put_words` meets its contract. The loop's invariant: the words from 8 to o that differ are listed. Assumes nothing.
-use Prim.Native.Nat.{ℕ, _+_, _*_, _-_, _/_, _≤_, _<_}
+use Prim.Native.Nat.{_+_, _*_, _-_, _/_, _≤_}
 use lib.ListN.{length}
-use mathlib.Core.List.{List, [], _∷_, _++_}
-use mathlib.Core.Path.{_≡_, refl, sym, ap, _∙_}
+use mathlib.Core.List.{[], _∷_}
+use mathlib.Core.Path.{_≡_, refl, _∙_}
 use native.Mathlib.Omega.{arith}
 use borrow.Author.Needs.{needs}
 use Rattle.stores.proofs.Laid.{added-none, added-more, stored-one, offsets-none}
-use Rattle.stores.specs.Added.{Added, stored, Listable}
-use Rattle.stores.specs.Stores.{offsets, plan}
+use Rattle.stores.specs.Added.{Added, stored}
+use Rattle.stores.specs.Stores.{offsets}
 use Rattle.stores.proofs.put_words.Statement.{statement}
 use Rattle.stores.proofs.put_words.Tie as tie
 
