@@ -67,7 +67,7 @@ admitted q a n e =
 
 -- an accepted call was admitted, and gave what its own line gives
 own : (d : Decision) (q : Session) (s : List ℕ) (x : Result) → Accepted (ifAdmitted d q s x) → (d ≡ accepted) × (ifAdmitted d q s x ≡ x)
-unfolding ifAdmitted calls.refusedBy
+unfolding ifAdmitted calls.refusedCall
 own accepted q s x e = (refl, refl)
 own (refusal number values) q s x e = absurd (no-refusal number values e)
 
@@ -81,12 +81,12 @@ record Made (k : Call) (a s : List ℕ) (x : Result) : Type 0 where
 module _ (a s : List ℕ) where
   -- a refusal is no accepted line
   refused-line : (k : Call) (q : Session) (why : Refusal) → Accepted (refusedCall q why s) → Made k a s (refusedCall q why s)
-  unfolding calls.refusedBy
+  unfolding calls.refusedCall
   refused-line k q why e = absurd (refusing why e)
 
   image-found : (q : Session) (g : List ℕ) (f : ℕ → Result) → Accepted (ofImage q g a s f)
       → (imageWith g (held a) < imageCount (held a)) × (ofImage q g a s f ≡ f (imageWith g (held a)))
-  unfolding ofImage calls.refusedBy
+  unfolding ofImage calls.refusedCall
   image-found q g f e = go (ltb (imageWith g (held a)) (imageCount (held a))) refl e
     where
       go : (b : Bool) → ltb (imageWith g (held a)) (imageCount (held a)) ≡ b
