@@ -1,9 +1,9 @@
 -- `after_accept` meets its contract. Assumes nothing.
-use mathlib.Core.Path.{_≡_, refl, sym, ap, _∙_}
+use mathlib.Core.Path.{refl, sym, _∙_}
 use native.Mathlib.Omega.{arith}
 use Rattle.record.proofs.Sound.{sound-sized, sound-named}
 use Rattle.session.specs.Calls.{afterAccept}
-use Rattle.session.proofs.Admission.{Known, known}
+use Rattle.session.proofs.Admission.{known}
 use borrow.Author.Needs.{needs}
 use Rattle.session.proofs.after_accept.Statement.{statement}
 use Rattle.session.proofs.after_accept.Tie as tie
