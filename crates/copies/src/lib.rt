@@ -5,7 +5,8 @@ ghost use mathlib.Core.Path.{_≡_};
 ghost use Prim.Native.Nat.{_≤_};
 ghost use lib.ListN.{length};
 ghost use Rattle.fields.specs.Guid.{same};
-ghost use Rattle.copies.specs.Copies.{sourceOf, recordsEqual};
+ghost use Rattle.copies.specs.Copies.{sourceOf, recordsEqual, soundAndEqual};
+ghost use Rattle.copies.specs.declared.Source.the-variants.{Copy0};
 
 // The sizes of an area and of a copy.
 pub const AREA: usize = 16384;
@@ -57,4 +58,15 @@ pub fn records_equal(area: &[u8]) -> bool
     ensures { λ b. ⌜ b ≡ recordsEqual (now (area .entry)) ⌝ }
 {
     same_bytes(record_in(&area[0..COPY]), record_in(&area[COPY..AREA]))
+}
+
+// Whether copy 1 is sound too, and its record the same as that of copy 0, which is sound.
+pub fn second_agrees(area: &[u8]) -> bool
+    requires { ⌜ (length (now area) ≡ 16384) × (sourceOf (now area) ≡ Copy0) ⌝ }
+    ensures { λ b. ⌜ b ≡ soundAndEqual (now (area .entry)) ⌝ }
+{
+    if sound_copy(&area[COPY..AREA]) {
+        return records_equal(area);
+    }
+    false
 }

@@ -3,33 +3,21 @@ use copies::AREA;
 use copies::COPY;
 use copies::Source;
 use copies::read_source;
-use copies::records_equal;
+use copies::second_agrees;
 use record::record_in;
 use refusals::Refusal;
 use session::Answer;
 use session::Session;
-use soundness::sound_copy;
 use stores::STORE_NUMBERS;
 use stores::list_copy;
 ghost use mathlib.Core.Path.{_≡_};
 ghost use mathlib.Core.Bool.{true};
 ghost use Prim.Native.Nat.{_≤_};
 ghost use lib.ListN.{length};
-ghost use Rattle.copies.specs.Copies.{sourceOf, soundAndEqual};
+ghost use Rattle.copies.specs.Copies.{sourceOf};
 ghost use Rattle.copies.specs.declared.Source.the-variants.{Copy0, Copy1};
 ghost use Rattle.session.specs.Outcome.{outcomeOf};
 ghost use Rattle.repair.specs.Repair.{repairedAt, repaired};
-
-// Whether copy 1 is sound too, and its record the same as that of copy 0, which is sound.
-fn second_agrees(area: &[u8]) -> bool
-    requires { ⌜ (length (now area) ≡ 16384) × (sourceOf (now area) ≡ Copy0) ⌝ }
-    ensures { λ b. ⌜ b ≡ soundAndEqual (now (area .entry)) ⌝ }
-{
-    if sound_copy(&area[COPY..AREA]) {
-        return records_equal(area);
-    }
-    false
-}
 
 // The record of copy 0 into copy 1, where they are not sound and equal.
 fn repair_second(area: &[u8], out: &mut [u32]) -> Answer

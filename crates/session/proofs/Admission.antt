@@ -1,5 +1,5 @@
 -- What a call knows once it is admitted, and what its result is where it is not. Assumes nothing.
-use mathlib.Core.Path.{_≡_, refl, sym, ap, _∙_}
+use mathlib.Core.Path.{_≡_, refl}
 use mathlib.Core.Bool.{Bool, true, false, cond, not, _&&_, _||_}
 use mathlib.Core.List.{List}
 use Prim.Native.Nat.{ℕ, _+_, _*_, _%_, _^_, _≤_, _<_}
@@ -23,7 +23,7 @@ use Rattle.alterations.specs.Altered.{Changeable}
 use Rattle.changes.specs.NewRecord.{updateBankOf}
 use Rattle.session.specs.declared.Session.{Session}
 use Rattle.session.specs.declared.Session.the-variants.{Staging}
-use Rattle.session.specs.Outcome.{Decision, accepted, refusal, refused, refusedWith}
+use Rattle.session.specs.Outcome.{accepted, refused, refusedWith}
 use Rattle.session.specs.Calls.{Result, held, stagingFits, admission, ifAdmitted, called}
 use Rattle.session.specs.Admitted.{Admitted, equalAdmission}
 use Rattle.session.proofs.Bits.{one-shifted}

@@ -3,14 +3,14 @@ use mathlib.Core.Path.{_≡_, refl, sym, ap, _∙_}
 use mathlib.Core.Bool.{Bool, true, false, cond, _&&_, _||_}
 use mathlib.Core.Logic.{_⊎_, inl, inr, ⊎-elim}
 use mathlib.Core.List.{List}
-use Prim.Native.Nat.{ℕ, zero, suc, _+_, _-_, _*_, _/_, _%_, _^_, _≤_, _<_}
+use Prim.Native.Nat.{ℕ, zero, suc, _+_, _-_, _/_, _%_, _^_, _≤_, _<_}
 use native.Mathlib.Nat.{add-assoc, add-zero, mod-lt, div-eq-of-lt, lt-of-lt-of-le, one-mul}
 use native.Mathlib.Numerals.{one-add}
 use native.Mathlib.Omega.{arith}
 use borrow.Author.Tests.{eq-eqb, ne-eqb}
 use lib.Dec.{eqb}
 use lib.Bits.{bitOr, or-shr, or-mod, or-lt, shifted-even}
-use lib.Count.{ones, onesIn}
+use lib.Count.{onesIn}
 use lib.Pow.{pow-lt, pow-mono, pow-add, shl-shr, shr-shr}
 use Rattle.fields.proofs.Tests.{le-or-lt}
 use Rattle.record.specs.Layout.{imageCount}
@@ -20,7 +20,7 @@ use Rattle.session.specs.Calls.{held, joined, missing, endLine}
 use Rattle.session.specs.Admitted.{Admitted}
 use Rattle.session.specs.CallLaws.{inSet, everyIn, absent, endLineByImages}
 use Rattle.session.proofs.Bits.{ones-in}
-use Rattle.session.proofs.Admission.{Known, known, held-sound, set-below}
+use Rattle.session.proofs.Admission.{known, held-sound, set-below}
 
 -- a bit is 0 or 1
 bit : (n : ℕ) → (n % 2 ≡ 0) ⊎ (n % 2 ≡ 1)

@@ -1,12 +1,10 @@
 -- What each call's own line gives at each way out. Assumes nothing.
-use mathlib.Core.Path.{_≡_, refl, sym, ap, _∙_}
-use mathlib.Core.Bool.{Bool, true, false, cond, _&&_}
+use mathlib.Core.Path.{_≡_, sym, _∙_}
+use mathlib.Core.Bool.{true, _&&_}
 use mathlib.Core.List.{List, []}
-use Prim.Native.Nat.{ℕ, _+_, _*_, _%_, _^_, _≤_, _<_}
-use native.Mathlib.Omega.{arith}
+use Prim.Native.Nat.{ℕ, _*_, _%_, _^_, _≤_, _<_}
 use borrow.Author.Tests.{lt-ltb, le-ltb, eq-eqb, ne-eqb}
 use lib.Bits.{bitOr}
-use lib.ListN.{length}
 use Rattle.fields.proofs.Tests.{both}
 use Rattle.fields.proofs.Guid.{same-true, same-refl}
 use Rattle.refusals.specs.declared.Refusal.the-variants.{SessionState, NoImage, ImagesMissing}

@@ -12,25 +12,22 @@ use copies::AREA;
 use copies::COPY;
 use copies::Source;
 use copies::read_source;
-use copies::records_equal;
+use copies::second_agrees;
 use fields::read16;
 use fields::read32;
 use record::record_in;
 use refusals::Refusal;
-use soundness::sound_copy;
 use stores::STORE_NUMBERS;
 ghost use mathlib.Core.Path.{_≡_};
 ghost use mathlib.Core.Bool.{true};
 ghost use Prim.Native.Nat.{_<_, _^_};
 ghost use lib.ListN.{length};
-ghost use Rattle.record.specs.Layout.{recordOf, copy0, active, imageCount};
-ghost use Rattle.record.specs.Rules.{sound, allAccepted};
-ghost use Rattle.record.specs.Sized.{Sized};
-ghost use Rattle.copies.specs.Copies.{sourceOf, soundAndEqual};
+ghost use Rattle.record.specs.Layout.{imageCount};
+ghost use Rattle.record.specs.Rules.{sound};
+ghost use Rattle.copies.specs.Copies.{sourceOf};
 ghost use Rattle.copies.specs.declared.Source.the-variants.{Copy0};
-ghost use Rattle.alterations.specs.Altered.{Changeable, Listed};
-ghost use Rattle.alterations.specs.ChangeStores.{changeStores};
-ghost use Rattle.changes.specs.NewRecord.{updateBankOf, imageWith, marked, begunRecord, committedRecord, endedRecord, acceptedRecord, exchangedRecord};
+ghost use Rattle.alterations.specs.Altered.{Changeable};
+ghost use Rattle.changes.specs.NewRecord.{updateBankOf, imageWith, begunRecord};
 ghost use Rattle.session.specs.declared.Session.the-variants.{Staging, Trial};
 ghost use Rattle.session.specs.Outcome.{decisionOf, outcomeOf, refusedWith, acceptedWith};
 ghost use Rattle.session.specs.Calls.{held, changedTo, stagingFits, admission, missing, afterAccept, selected, beginLine, commitLine, endLine, cancelLine, acceptLine, selectPreviousLine, beginCall, commitCall, endCall, cancelCall, acceptCall, selectPreviousCall};
@@ -120,17 +117,6 @@ fn staging_fits(session: Session, r: &[u8]) -> bool
         Session::Fallback => true,
         Session::Restart => true,
     }
-}
-
-// Whether copy 1 is sound too, and its record the same as that of copy 0, which is sound.
-fn second_agrees(area: &[u8]) -> bool
-    requires { ⌜ (length (now area) ≡ 16384) × (sourceOf (now area) ≡ Copy0) ⌝ }
-    ensures { λ b. ⌜ b ≡ soundAndEqual (now (area .entry)) ⌝ }
-{
-    if sound_copy(&area[COPY..AREA]) {
-        return records_equal(area);
-    }
-    false
 }
 
 // 22 and 24, where copy 0 is sound.

@@ -1,6 +1,6 @@
 -- `admit` meets its contract. Assumes nothing.
 use borrow.Author.Tests.{eq-eqb, ne-eqb, lt-ltb}
-use mathlib.Core.Path.{_≡_, refl, sym, ap, _∙_}
+use mathlib.Core.Path.{sym, _∙_}
 use Rattle.session.specs.Calls.{admission}
 use Rattle.session.proofs.Admission.{admission-copy0, admission-copy1, admission-neither}
 use borrow.Author.Needs.{needs}

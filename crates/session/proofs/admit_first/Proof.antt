@@ -1,8 +1,7 @@
 -- `admit_first` meets its contract. Assumes nothing.
 use borrow.Author.Tests.{not-true, not-false}
-use mathlib.Core.Bool.{Bool, true, false}
-use mathlib.Core.Path.{_≡_, refl, sym, ap, _∙_}
-use Rattle.record.specs.Layout.{recordOf, copy0, active, previous, state, bankCount, imageCount}
+use mathlib.Core.Bool.{true, false}
+use mathlib.Core.Path.{_≡_, sym, _∙_}
 use Rattle.copies.proofs.Reading.{from-copy0}
 use Rattle.session.specs.Calls.{held, stagingFits}
 use Rattle.session.specs.Admitted.{equalAdmission}

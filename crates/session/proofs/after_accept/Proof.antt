@@ -1,5 +1,5 @@
 -- `after_accept` meets its contract. Assumes nothing.
-use mathlib.Core.Path.{_≡_, refl, sym, ap, _∙_}
+use mathlib.Core.Path.{_≡_, sym, ap, _∙_}
 use mathlib.Core.Bool.{Bool}
 use mathlib.Core.List.{List}
 use Prim.Native.Nat.{ℕ}
@@ -11,7 +11,7 @@ use Rattle.changes.specs.NewRecord.{marked}
 use Rattle.changes.proofs.Making.{marked-is}
 use Rattle.record.proofs.Sound.{sound-sized, sound-named}
 use Rattle.session.specs.Calls.{afterAccept}
-use Rattle.session.proofs.Admission.{Known, known}
+use Rattle.session.proofs.Admission.{known}
 use borrow.Author.Needs.{needs}
 use Rattle.session.proofs.after_accept.Statement.{statement}
 use Rattle.session.proofs.after_accept.Tie as tie

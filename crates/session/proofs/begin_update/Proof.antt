@@ -1,8 +1,7 @@
 -- `begin_update` meets its contract. Assumes nothing.
 use mathlib.Core.Bool.{true}
-use mathlib.Core.Path.{_≡_, refl, sym, ap, _∙_}
+use mathlib.Core.Path.{_≡_}
 use Rattle.record.specs.Rules.{sound}
-use Rattle.record.specs.Layout.{recordOf, copy0, active, previous, state, bankCount, imageCount}
 use Rattle.changes.specs.NewRecord.{updateBankOf, begunRecord}
 use Rattle.session.specs.declared.Session.the-variants.{Staging}
 use Rattle.session.specs.Calls.{held}

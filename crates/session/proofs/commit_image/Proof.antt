@@ -1,13 +1,12 @@
 -- `commit_image` meets its contract. Assumes nothing.
 use mathlib.Core.Bool.{true}
-use Prim.Native.Nat.{ℕ, _≤_, _<_}
-use mathlib.Core.Path.{_≡_, refl, sym, ap, _∙_}
+use mathlib.Core.Path.{_≡_}
 use native.Mathlib.Omega.{arith}
 use Rattle.record.specs.Rules.{sound}
-use Rattle.record.specs.Layout.{recordOf, copy0, active, previous, state, bankCount, imageCount}
+use Rattle.record.specs.Layout.{imageCount}
 use Rattle.changes.specs.NewRecord.{imageWith}
 use Rattle.session.specs.Calls.{held}
-use Rattle.session.proofs.Admission.{Known, known, held-sound}
+use Rattle.session.proofs.Admission.{known, held-sound}
 use Rattle.session.proofs.Lines.{not-committed, committed}
 use borrow.Author.Needs.{needs}
 use Rattle.session.proofs.commit_image.Statement.{statement}

@@ -1,9 +1,5 @@
 -- `end_update` meets its contract. Assumes nothing.
-use mathlib.Core.Bool.{true}
-use Prim.Native.Nat.{ℕ}
-use mathlib.Core.Path.{_≡_, refl, sym, ap, _∙_}
-use Rattle.record.specs.Rules.{sound}
-use Rattle.record.specs.Layout.{recordOf, copy0, active, previous, state, bankCount, imageCount}
+use mathlib.Core.Path.{_≡_}
 use Rattle.session.specs.Calls.{held, missing}
 use Rattle.session.proofs.Admission.{held-sound, set-below}
 use Rattle.session.proofs.Lines.{not-ended, ended}

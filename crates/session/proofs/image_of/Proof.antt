@@ -1,8 +1,7 @@
 -- `image_of` meets its contract. Assumes nothing.
-use mathlib.Core.Path.{_≡_, refl, sym, ap, _∙_}
 use native.Mathlib.Omega.{arith}
 use Rattle.record.proofs.Sound.{sound-sized}
-use Rattle.session.proofs.Admission.{Known, known}
+use Rattle.session.proofs.Admission.{known}
 use borrow.Author.Needs.{needs}
 use Rattle.session.proofs.image_of.Statement.{statement}
 use Rattle.session.proofs.image_of.Tie as tie

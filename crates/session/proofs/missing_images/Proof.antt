@@ -1,11 +1,10 @@
 -- `missing_images` meets its contract. Assumes nothing.
-use mathlib.Core.Path.{_≡_, refl, sym, ap, _∙_}
 use native.Mathlib.Omega.{arith}
 use lib.Count.{ones-le}
-use Rattle.record.specs.Layout.{recordOf, copy0, active, previous, state, bankCount, imageCount}
+use Rattle.record.specs.Layout.{imageCount}
 use Rattle.session.specs.Calls.{missing}
 use Rattle.session.proofs.Bits.{ones-in}
-use Rattle.session.proofs.Admission.{Known, known}
+use Rattle.session.proofs.Admission.{known}
 use borrow.Author.Needs.{needs}
 use Rattle.session.proofs.missing_images.Statement.{statement}
 use Rattle.session.proofs.missing_images.Tie as tie

@@ -1,11 +1,11 @@
 -- `select_bank` meets its contract. Assumes nothing.
 use mathlib.Core.Bool.{true}
-use mathlib.Core.Path.{_≡_, refl, sym, ap, _∙_}
+use mathlib.Core.Path.{_≡_}
 use native.Mathlib.Omega.{arith}
 use Rattle.record.specs.Rules.{sound}
-use Rattle.record.specs.Layout.{recordOf, copy0, active, previous, state, bankCount, imageCount}
+use Rattle.record.specs.Layout.{previous, state}
 use Rattle.session.specs.Calls.{held}
-use Rattle.session.proofs.Admission.{Known, known, held-sound}
+use Rattle.session.proofs.Admission.{known, held-sound}
 use Rattle.session.proofs.Lines.{not-selected, was-selected}
 use borrow.Author.Needs.{needs}
 use Rattle.session.proofs.select_bank.Statement.{statement}

@@ -1,9 +1,9 @@
 -- `staged` meets its contract. Assumes nothing.
 use borrow.Author.Tests.{eq-eqb, ne-eqb}
-use mathlib.Core.Path.{_≡_, refl, sym, ap, _∙_}
+use mathlib.Core.Path.{_∙_}
 use native.Mathlib.Omega.{arith}
 use Rattle.session.specs.Calls.{stagingFits}
-use Rattle.session.proofs.Admission.{Known, known, set-decides}
+use Rattle.session.proofs.Admission.{known, set-decides}
 use borrow.Author.Needs.{needs}
 use Rattle.session.proofs.staged.Statement.{statement}
 use Rattle.session.proofs.staged.Tie as tie

@@ -1,5 +1,4 @@
 -- `staging_fits` meets its contract. Assumes nothing.
-use mathlib.Core.Path.{_≡_, refl, sym, ap, _∙_}
 use Rattle.session.specs.Calls.{stagingFits}
 use borrow.Author.Needs.{needs}
 use Rattle.session.proofs.staging_fits.Statement.{statement}

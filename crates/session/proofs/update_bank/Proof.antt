@@ -1,7 +1,6 @@
 -- `update_bank` meets its contract. Assumes nothing.
-use mathlib.Core.Path.{_≡_, refl, sym, ap, _∙_}
 use native.Mathlib.Omega.{arith}
-use Rattle.session.proofs.Admission.{Known, known}
+use Rattle.session.proofs.Admission.{known}
 use Rattle.session.proofs.update_bank.Statement.{statement}
 use Rattle.session.proofs.update_bank.Tie as tie
 

@@ -1,5 +1,4 @@
 -- `accept_line` meets its contract. Assumes nothing.
-use mathlib.Core.Path.{_≡_, refl, sym, ap, _∙_}
 use Rattle.session.specs.Calls.{refusedCall, acceptLine}
 use borrow.Author.Needs.{needs}
 use Rattle.session.proofs.Session.accept_line.Statement.{statement}

@@ -1,7 +1,6 @@
 -- `begin` meets its contract. Assumes nothing.
-use Prim.Native.Nat.{ℕ}
 use lib.ListN.{length}
-use mathlib.Core.Path.{_≡_, refl, sym, ap, _∙_}
+use mathlib.Core.Path.{_≡_, sym, ap, _∙_}
 use Rattle.session.specs.Outcome.{decisionOf, accepted}
 use Rattle.session.specs.Calls.{admission, beginCall}
 use Rattle.session.proofs.Admission.{admitted, called-accepted, called-refused}

@@ -1,5 +1,4 @@
 -- `begin_line` meets its contract. Assumes nothing.
-use mathlib.Core.Path.{_≡_, refl, sym, ap, _∙_}
 use Rattle.session.specs.Calls.{refusedCall, beginLine}
 use borrow.Author.Needs.{needs}
 use Rattle.session.proofs.Session.begin_line.Statement.{statement}

@@ -1,5 +1,4 @@
 -- `cancel_line` meets its contract. Assumes nothing.
-use mathlib.Core.Path.{_≡_, refl, sym, ap, _∙_}
 use Rattle.session.specs.Calls.{refusedCall, cancelLine}
 use Rattle.session.proofs.Lines.{unchanged}
 use borrow.Author.Needs.{needs}

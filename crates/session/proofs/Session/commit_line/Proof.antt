@@ -1,5 +1,4 @@
 -- `commit_line` meets its contract. Assumes nothing.
-use mathlib.Core.Path.{_≡_, refl, sym, ap, _∙_}
 use Rattle.session.specs.Calls.{refusedCall, commitLine}
 use borrow.Author.Needs.{needs}
 use Rattle.session.proofs.Session.commit_line.Statement.{statement}

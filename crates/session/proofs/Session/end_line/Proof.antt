@@ -1,7 +1,5 @@
 -- `end_line` meets its contract. Assumes nothing.
-use mathlib.Core.Path.{_≡_, refl, sym, ap, _∙_}
 use Rattle.session.specs.Calls.{refusedCall, endLine}
-use Rattle.session.specs.Admitted.{Admitted}
 use borrow.Author.Needs.{needs}
 use Rattle.session.proofs.Session.end_line.Statement.{statement}
 use Rattle.session.proofs.Session.end_line.Tie as tie

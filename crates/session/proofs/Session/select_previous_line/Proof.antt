@@ -1,5 +1,5 @@
 -- `select_previous_line` meets its contract. Assumes nothing.
-use mathlib.Core.Path.{_≡_, refl, sym, ap, _∙_}
+use mathlib.Core.Path.{_∙_}
 use Rattle.session.specs.Calls.{refusedCall, selectPreviousLine}
 use Rattle.session.proofs.Lines.{selects-in-trial, selects-in-fallback}
 use borrow.Author.Needs.{needs}

@@ -2,11 +2,11 @@
 use mathlib.Core.Bool.{_&&_}
 use mathlib.Core.Path.{_≡_, refl, sym, ap, _∙_}
 use borrow.Author.Needs.{needs}
 use Rattle.copies.proofs.Reading.{from-copy0, from-copy1}
 use Rattle.copies.specs.Copies.{soundAndEqual}
 use Rattle.record.specs.Rules.{soundCopy}
-use Rattle.session.proofs.second_agrees.Statement.{statement}
-use Rattle.session.proofs.second_agrees.Tie as tie
+use Rattle.copies.proofs.second_agrees.Statement.{statement}
+use Rattle.copies.proofs.second_agrees.Tie as tie
 
 sub-sound-copy : tie.Need-sub-sound-copy
 sub-sound-copy c = search needs
