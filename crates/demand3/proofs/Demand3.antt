@@ -122,7 +122,7 @@ module _ (a s : List ℕ) (acc : Accepted (repaired a s)) where
     unfolding afterList
     settled =
         rw all-done at
-        (lasts a (repairWith s (length stores) ∷ []) (record { long = mended .long; bytes = b; one-sound = mended .one-sound }) .repaired
+        (lasts a (repairWith s (length stores) ∷ []) (record { long = mended .long; bytes = b; one-sound = mended .one-sound }) .both-hold
         (inl (acc, omega arith)))
 
     repairs : Repairs a stores
@@ -141,8 +141,8 @@ pub demand3 : Demand3
 demand3 =
     record {
       change = λ k q a s n es b acc. call-survives k q a s b acc n es;
-      listed = λ k q a s b acc. call-listed k q a s b acc;
+      change-listed = λ k q a s b acc. call-listed k q a s b acc;
       anywhere = λ a es l b h. lasts a es (record { long = l; bytes = b; one-sound = h });
       repair = λ a s b acc. repairs a s acc b;
-      repairs = λ a s acc. repair-listed a s acc;
+      repair-listed = λ a s acc. repair-listed a s acc;
     }

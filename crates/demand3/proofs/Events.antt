@@ -211,5 +211,5 @@ lasts a es g =
       bytes = list-good a es g .bytes;
       reads = reads;
       answers = λ booted. ap (λ (b : List ℕ). startUp b booted) (list-is a es g) ∙ h .answers booted;
-      repaired = λ f. both-hold (afterList a es) (recordRead a) (rw (list-is a es g) (h .repaired (finished-is a es g f))) (reads .is);
+      both-hold = λ f. both-hold (afterList a es) (recordRead a) (rw (list-is a es g) (h .repaired (finished-is a es g f))) (reads .is);
     }

@@ -72,6 +72,7 @@ pub record BothHold (a r : List ℕ) : Type 0 where
   pub is1 : recordOf (copy1 a) ≡ r
 
 -- ---- "The new one is the old with what the call's line above alters, its CRC worked anew."
+-- What each of these records says field by field is read off again in crates/kept_sound (`CallsMake`, specs/Fields.antt)
 -- "Cancel itself changes nothing in the record"
 unfoldable pub newRecord : Call → (r : List ℕ) → List ℕ
 newRecord begin r = begunRecord r
@@ -119,21 +120,21 @@ Finished a (e ∷ es) = Finishes a e ⊎ Finished (afterEvent a e) es
 --     long, bytes   an area still, so that more may follow
 --     reads         "start-up after the list reads the same record as before it"
 --     answers       and answers the same, session or refusal, for any booted bank
---     repaired      "Once a repair in the list has finished, both copies are sound and equal from then on": the list is any list, so this holds
+--     both-hold     "Once a repair in the list has finished, both copies are sound and equal from then on": the list is any list, so this holds
 --                   after each event of a longer one
 pub record Lasts (a : List ℕ) (es : List Event) : Type 0 where
   pub long : length (afterList a es) ≡ areaSize
   pub bytes : Bytes (afterList a es)
   pub reads : Reads (afterList a es) (recordRead a)
   pub answers : (booted : ℕ) → startUp (afterList a es) booted ≡ startUp a booted
-  pub repaired : Finished a es → BothHold (afterList a es) (recordRead a)
+  pub both-hold : Finished a es → BothHold (afterList a es) (recordRead a)
 
 -- ---- the rules on a list
 -- "offsets are multiples of 4 inside one of the two record ranges, old or new"
 abbrev pub InRange : (old new : List ℕ) → Store → Type 0
 InRange old new store = InEither (length old) store ⊎ InEither (length new) store
 
--- "That slice must hold 4,200 numbers (2,100 pairs)."
+-- "That slice must hold 4,200 numbers (2,100 pairs).": read as a limit on the list too, however long the slice is
 abbrev pub pairLimit : ℕ
 pairLimit = 2100
 
@@ -174,17 +175,18 @@ pub record Repairs (a : List ℕ) (ss : List Store) : Type 0 where
   pub few : length ss ≤ pairLimit
 
 -- ---- Demand 3: "Start from two sound, equal copies of the record, take any accepted change and cut it after any number of its stores"; "Go on
--- from what that cut left, or from any other area with a sound copy." That a is bytes is all that is asked of it: that it is an area with two
--- sound and equal copies is what the calls are refused for otherwise. Of the checksum nothing is asked but that it is a function
---     change      one change, its cut, and the whole list
---     listed      the stores of a change are those that its answer counts, in the slice that was lent
---     anywhere    any other area with a sound copy
---     repair      an accepted repair with all its stores done
---     repairs     its stores are those that its answer counts, in the slice that was lent
+-- from what that cut left, or from any other area with a sound copy." That a is bytes is all that a change asks of it: that
+-- it is an area with two sound and equal copies is what the calls are refused for otherwise. No clause has a premise about the checksum.
+-- That calls and repairs are accepted at all is for their own clauses to say; proofs/Sample.antt has one of each
+--     change           one change, its cut, and the whole list
+--     change-listed    the stores of a change are those that its answer counts, in the slice that was lent
+--     anywhere         any other area with a sound copy
+--     repair           an accepted repair with all its stores done
+--     repair-listed    its stores are those that its answer counts, in the slice that was lent
 pub record Demand3 : Type 0 where
   pub change : (k : Call) (q : Session) (a s : List ℕ) (n : ℕ) (es : List Event) → Bytes a → Accepted (resultOf k q a s)
       → Survives a (held a) (newRecord k (held a)) (listOf (resultOf k q a s)) n es
-  pub listed : (k : Call) (q : Session) (a s : List ℕ) → Bytes a → Accepted (resultOf k q a s) → Listed s (resultOf k q a s)
+  pub change-listed : (k : Call) (q : Session) (a s : List ℕ) → Bytes a → Accepted (resultOf k q a s) → Listed s (resultOf k q a s)
   pub anywhere : (a : List ℕ) (es : List Event) → length a ≡ areaSize → Bytes a → sourceOf a ≢ Neither → Lasts a es
   pub repair : (a s : List ℕ) → Bytes a → Accepted (repaired a s) → Repairs a (listOf (repaired a s))
-  pub repairs : (a s : List ℕ) → Accepted (repaired a s) → Listed s (repaired a s)
+  pub repair-listed : (a s : List ℕ) → Accepted (repaired a s) → Listed s (repaired a s)

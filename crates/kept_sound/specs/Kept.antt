@@ -1,5 +1,5 @@
--- Every accepted call keeps the record sound (document 01, "Session and calls"; "Power cuts": a new record is what a change writes, so that it
--- must be sound to be read). r is the bytes of the old record, i an image of it, request the one that Commit is given. Assumes nothing.
+-- Every accepted call keeps the record sound (document 01, "Session and calls"). Document 01 does not say so; demand 3 needs it, since only a
+-- sound record is read. r is the bytes of the old record, i an image of it, request the one that Commit is given. Assumes nothing.
 use Prim.Native.Nat.{ℕ, _<_}
 use mathlib.Core.Path.{_≡_}
 use mathlib.Core.Bool.{true}
