@@ -6,7 +6,7 @@ use mathlib.Core.List.{List}
 use lib.Dec.{leb, ltb}
 use Rattle.fields.specs.Number.{le}
 
--- "1: B + N above 2^64"
+-- 1, "B + N above 2^64"
 abbrev pub pastEnd : ℕ → ℕ → Bool
 pastEnd B N = ltb (2 ^ 64) (B + N)
 
