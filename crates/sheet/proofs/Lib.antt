@@ -1,0 +1,3 @@
+-- Laws of texts and of writing them, for the proofs here.
+pub mod Digits
+pub mod Writing

@@ -1,0 +1,40 @@
+-- `line_of_three` meets its contract. Assumes nothing.
+use Prim.Native.Nat.{ℕ, _+_, _*_, _-_, _/_, _%_, _≤_, _<_}
+use mathlib.Core.List.{List, [], _∷_, _++_}
+use mathlib.Core.Path.{_≡_, refl, sym, ap, _∙_}
+use native.Mathlib.Omega.{arith}
+use lib.ListN.{length}
+use borrow.Author.Needs.{needs}
+use Rattle.sheet.specs.Text.{tab, lineFeed, decimal, numbers, line}
+use Rattle.sheet.proofs.Writing.{wrote-then, room-first, room-then}
+use Rattle.sheet.proofs.line_of_three.Statement.{statement}
+use Rattle.sheet.proofs.line_of_three.Tie as tie
+
+put-word-requires : tie.Need-put-word-requires
+put-word-requires c κs = search needs
+
+put-number-requires : tie.Need-put-number-requires
+put-number-requires c κs = search needs
+
+put-number-requires-2 : tie.Need-put-number-requires-2
+put-number-requires-2 c κs = search needs
+
+put-last-requires : tie.Need-put-last-requires
+put-last-requires c κs = search needs
+
+same-length : tie.Need-same-length
+same-length c = search needs
+
+returns : tie.Need-returns
+returns c = search needs
+
+pub line-of-three-spec : {M : Type 1} → statement M
+line-of-three-spec =
+    tie.close
+    (tie.spec
+    put-word-requires
+    put-number-requires
+    put-number-requires-2
+    put-last-requires
+    same-length
+    returns)

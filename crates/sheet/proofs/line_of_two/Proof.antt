@@ -1,0 +1,31 @@
+-- `line_of_two` meets its contract. Assumes nothing.
+use Prim.Native.Nat.{ℕ, _+_, _*_, _-_, _/_, _%_, _≤_, _<_}
+use mathlib.Core.List.{List, [], _∷_, _++_}
+use mathlib.Core.Path.{_≡_, refl, sym, ap, _∙_}
+use native.Mathlib.Omega.{arith}
+use lib.ListN.{length}
+use borrow.Author.Needs.{needs}
+use Rattle.sheet.specs.Text.{tab, lineFeed, decimal, numbers, line}
+use Rattle.sheet.proofs.Writing.{wrote-then, room-first, room-then}
+use Rattle.sheet.proofs.line_of_two.Statement.{statement}
+use Rattle.sheet.proofs.line_of_two.Tie as tie
+
+put-word-requires : tie.Need-put-word-requires
+put-word-requires c κs = search needs
+
+put-number-requires : tie.Need-put-number-requires
+put-number-requires c κs = search needs
+
+put-last-requires : tie.Need-put-last-requires
+put-last-requires c κs = search needs
+
+same-length : tie.Need-same-length
+same-length c = search needs
+
+returns : tie.Need-returns
+returns c = search needs
+
+pub line-of-two-spec : {M : Type 1} → statement M
+line-of-two-spec =
+    tie.close
+    (tie.spec put-word-requires put-number-requires put-last-requires same-length returns)

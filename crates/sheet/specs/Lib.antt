@@ -1,0 +1,4 @@
+-- The bench sheet. Assumes nothing.
+pub mod Text
+pub mod Sheet
+pub mod Wrote
