@@ -1,12 +1,8 @@
 -- `put_number` meets its contract. Assumes nothing.
-use Prim.Native.Nat.{ℕ, _+_, _*_, _-_, _/_, _%_, _≤_, _<_}
-use mathlib.Core.List.{List, [], _∷_, _++_}
-use mathlib.Core.Path.{_≡_, refl, sym, ap, _∙_}
-use native.Mathlib.Omega.{arith}
-use lib.ListN.{length}
+use mathlib.Core.List.{[], _∷_}
 use borrow.Author.Needs.{needs}
-use Rattle.sheet.specs.Text.{tab, lineFeed, decimal, numbers, line}
-use Rattle.sheet.proofs.Writing.{wrote-then, room-first, room-then}
+use Rattle.sheet.specs.Text.{tab, decimal}
+use Rattle.sheet.proofs.Writing.{wrote-then}
 use Rattle.sheet.proofs.put_number.Statement.{statement}
 use Rattle.sheet.proofs.put_number.Tie as tie
 
@@ -22,8 +18,8 @@ same-length c = search needs
 returns : tie.Need-returns
 returns c =
     let q = c .before .before in
-    let p = q .before .before .before in
-    let s = p .before .before in
+    let p = q .before .before .before .before in
+    let s = p .before .before .before in
     let a = s .args in
     wrote-then (a .k) (p .put-byte .result) (q .put-decimal .result) (tab ∷ []) (decimal (a .x)) (a .out .now) (p .put-byte .last .0) (q .put-decimal .last .0)
     (s .pre) (p .put-byte .ensures) (q .put-decimal .ensures)
