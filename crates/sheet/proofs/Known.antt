@@ -1,18 +1,32 @@
 -- What a sound record is known by, as far as the sheet shows it. Assumes nothing.
 use mathlib.Core.Path.{_≡_, refl, sym, ap, _∙_}
-use mathlib.Core.Bool.{Bool, true}
+use mathlib.Core.Bool.{Bool, true, false, cond, _||_}
+use mathlib.Core.Logic.{⊎-elim}
 use mathlib.Core.List.{List}
 use Prim.Native.Nat.{ℕ, _+_, _*_, _≤_, _<_}
 use native.Mathlib.Omega.{arith}
-use borrow.Author.Tests.{leb-true}
-use lib.Dec.{leb}
+use borrow.Author.Tests.{leb-true, eqb-true}
+use lib.Dec.{eqb, leb, ltb}
 use lib.ListN.{length}
+use Rattle.fields.proofs.Tests.{either}
 use Rattle.record.specs.Every.{below}
-use Rattle.record.specs.Layout.{active, previous, size, bankCount, imageCount, acceptedAt, accepted}
-use Rattle.record.specs.Rules.{acceptedRule, rules, sound}
+use Rattle.record.specs.Layout.{bankLimit, active, previous, size, state, bankCount, imageCount, acceptedAt, accepted}
+use Rattle.record.specs.Rules.{invalid, valid, acceptedBank, acceptedRule, stateKnown, stateAllowed, statesRule, rules, sound}
 use Rattle.record.proofs.Below.{below-each}
 use Rattle.record.proofs.Sizes.{header-in, bank-in, record-high}
 use Rattle.record.proofs.Sound.{all-of, sound-sized, sound-size, sound-named}
+
+-- a state that rule 12 allows is a byte
+known-state : (s : ℕ) → stateKnown s ≡ true → s ≤ 255
+known-state s e =
+    ⊎-elim
+    (λ h. omega (arith, eqb-true s invalid h))
+    (λ h. ⊎-elim (λ v. omega (arith, eqb-true s valid v)) (λ v. omega (arith, eqb-true s acceptedBank v)) (either (eqb s valid) (eqb s acceptedBank) h))
+    (either (eqb s invalid) (eqb s valid || eqb s acceptedBank) e)
+
+allowed-state : (s : ℕ) (b : Bool) → cond b (stateKnown s) (eqb s invalid) ≡ true → s ≤ 255
+allowed-state s true e = known-state s e
+allowed-state s false e = omega (arith, eqb-true s invalid e)
 
 module _ (r : List ℕ) (e : sound r ≡ true) where
   pub header : 40 ≤ length r
@@ -43,3 +57,9 @@ module _ (r : List ℕ) (e : sound r ≡ true) where
       leb-true (accepted r i b) 1
       (below-each (λ (k : ℕ). leb (accepted r i k) 1) (bankCount r) b
       (below-each (λ (j : ℕ). below (bankCount r) (λ (k : ℕ). leb (accepted r j k) 1)) (imageCount r) i (all-of rules r e .1 .1 .1 .1 .1 .1 .1 .1 .1 .0) p) q)
+
+  pub state-byte : (b : ℕ) → b < bankCount r → state r b ≤ 255
+  unfolding sound statesRule stateAllowed
+  state-byte b q =
+      allowed-state (state r b) (ltb b (bankCount r))
+      (below-each (λ (k : ℕ). stateAllowed (bankCount r) k (state r k)) bankLimit b (all-of rules r e .1 .1 .1 .1 .1 .1 .1 .1 .1 .1 .1 .0) (omega (arith, few-banks)))

@@ -3,3 +3,4 @@ pub mod Digits
 pub mod Writing
 pub mod Lines
 pub mod Known
+pub mod Whole
