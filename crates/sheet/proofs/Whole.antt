@@ -1,12 +1,13 @@
 -- The whole sheet: that 4,096 bytes hold it, and what is written at each way out. Assumes nothing.
 use mathlib.Core.Path.{_≡_, refl, sym, ap, _∙_}
 use mathlib.Core.Logic.{_≢_}
-use mathlib.Core.Bool.{true}
+use mathlib.Core.Bool.{Bool, true, false, cond}
 use mathlib.Core.List.{List, [], _∷_, _++_}
 use Prim.Native.Nat.{ℕ, _+_, _*_, _≤_, _<_}
 use native.Mathlib.Nat.{zero-add}
 use native.Mathlib.Omega.{arith}
 use borrow.Author.Tests.{eq-eqb, ne-eqb, le-leb}
+use lib.Dec.{leb}
 use lib.ListN.{length, drop, length-append}
 use Rattle.fields.specs.Number.{put}
 use Rattle.refusals.specs.Number.{numberOf}
@@ -133,3 +134,16 @@ module _ (a : List ℕ) where
     pub sheet-neither : sourceOf a ≡ Neither → sheetOf a ≡ refusedLine NoSoundCopy
     unfolding sheetOf sheetFrom
     sheet-neither h = rw (eq-eqb (length a) areaSize l, h)
+
+-- what is written lies in the slice, so that a caller may take that part of it
+pub sheet-within : (a s new : List ℕ) (n : ℕ) → _≡_ {A = ℕ × List ℕ} (n, new) (sheetIn a s) → n ≤ length new
+unfolding sheetIn withText
+sheet-within a s new n e = go (leb sheetLimit (length s)) e
+  where
+    go : (b : Bool)
+        → _≡_ {A = ℕ × List ℕ} (n, new) (cond b (length (sheetOf a), sheetOf a ++ drop (length (sheetOf a)) s) (0, s))
+        → n ≤ length new
+    go true q =
+        let t = sheetOf a in
+        omega (arith, ap (λ (p : ℕ × List ℕ). p .0) q, ap (λ (p : ℕ × List ℕ). length (p .1)) q, length-append t (drop (length t) s))
+    go false q = omega (arith, ap (λ (p : ℕ × List ℕ). p .0) q)

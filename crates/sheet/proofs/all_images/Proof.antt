@@ -15,7 +15,7 @@ use Rattle.sheet.proofs.all_images.Statement.{statement}
 use Rattle.sheet.proofs.all_images.Tie as tie
 
 abbrev Inv-loop : tie.InvT-loop
-Inv-loop out₀ k r images n₀ i₀ out n i =     (images ≡ imageCount r) × (i ≤ images) × (length out ≡ length out₀) × Wrote k n (ascending i (imageLines r)) out₀ out
+Inv-loop out₀ k r images n₀ i₀ out n i = (images ≡ imageCount r) × (i ≤ images) × (length out ≡ length out₀) × Wrote k n (ascending i (imageLines r)) out₀ out
 
 abbrev μ-loop : tie.MeasureT-loop
 μ-loop out₀ k r images n₀ i₀ out n i = images - i

@@ -15,7 +15,7 @@ use Rattle.sheet.proofs.bank_lines.Statement.{statement}
 use Rattle.sheet.proofs.bank_lines.Tie as tie
 
 abbrev Inv-loop : tie.InvT-loop
-Inv-loop out₀ k r banks n₀ b₀ out n b =     (banks ≡ bankCount r) × (b ≤ banks) × (length out ≡ length out₀) × Wrote k n (ascending b (bankLine r)) out₀ out
+Inv-loop out₀ k r banks n₀ b₀ out n b = (banks ≡ bankCount r) × (b ≤ banks) × (length out ≡ length out₀) × Wrote k n (ascending b (bankLine r)) out₀ out
 
 abbrev μ-loop : tie.MeasureT-loop
 μ-loop out₀ k r banks n₀ b₀ out n b = banks - b
