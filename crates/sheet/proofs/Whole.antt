@@ -19,7 +19,7 @@ use Rattle.copies.specs.Copies.{sourceOf, readFrom}
 use Rattle.copies.specs.declared.Source.the-variants.{Copy0, Copy1, Neither}
 use Rattle.sheet.specs.Text.{ascii, decimal, numbers, line, ascending}
 use Rattle.sheet.specs.Sheet.{bankLine, imageLine, imageLines, headLines, recordLines, refusedLine, sheetFrom, sheetOf, sheetLimit, withText, sheetIn}
-use Rattle.sheet.specs.Wrote.{Wrote}
+use Rattle.sheet.specs.Wrote.{Room, Wrote}
 use Rattle.sheet.proofs.Digits.{one-digit, two-digits, three-digits, four-digits}
 use Rattle.sheet.proofs.Lines.{ascending-short}
 use Rattle.sheet.proofs.Known.{few-banks, few-images, small-size, small-active, small-previous, accepted-bit, state-byte}
@@ -37,9 +37,9 @@ length-end : length (numbers []) ≡ 1
 unfolding numbers
 length-end = refl
 
-pub refused-short : (refusal : Refusal) → numberOf refusal < 100 → length (refusedLine refusal) ≤ 4096
+pub refused-room : (refusal : Refusal) (out : List ℕ) → numberOf refusal < 100 → 4096 ≤ length out → Room 0 (refusedLine refusal) out
 unfolding refusedLine
-refused-short refusal h = omega (arith, length-line (ascii "refused") (numberOf refusal) [], length-end, two-digits (numberOf refusal) h)
+refused-room refusal out h l = omega (arith, length-line (ascii "refused") (numberOf refusal) [], length-end, two-digits (numberOf refusal) h)
 
 module _ (r : List ℕ) (e : sound r ≡ true) where
   head-short : (copy : ℕ) → copy < 10 → length (headLines copy r) ≤ 34
@@ -93,7 +93,7 @@ module _ (r : List ℕ) (e : sound r ≡ true) where
   unfolding imageLines
   images-short i p = omega (arith, ascending-short (imageLine r i) (bankCount r) 13 (λ b q. image-short i b p q), few-banks r e)
 
-  pub record-short : (copy : ℕ) → copy < 10 → length (recordLines copy r) ≤ 4096
+  record-short : (copy : ℕ) → copy < 10 → length (recordLines copy r) ≤ 4096
   unfolding recordLines
   record-short copy h =
       let banks = ascending (bankCount r) (bankLine r) in
@@ -108,6 +108,9 @@ module _ (r : List ℕ) (e : sound r ≡ true) where
         few-banks r e,
         few-images r e,
       )
+
+  pub record-room : (copy : ℕ) (out : List ℕ) → copy < 10 → 4096 ≤ length out → Room 0 (recordLines copy r) out
+  record-room copy out h l = omega (arith, record-short copy h)
 
 -- a text that was written from the slice's front on
 pub sheet-is : (a t s new : List ℕ) (n : ℕ) → 4096 ≤ length s → sheetOf a ≡ t → Wrote 0 n t s new → (n, new) ≡ sheetIn a s

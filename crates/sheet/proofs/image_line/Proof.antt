@@ -43,10 +43,10 @@ slice-aggregate-line-of-three : tie.Need-slice-aggregate-line-of-three
 slice-aggregate-line-of-three c = search needs
 
 cast-line-of-three : tie.Need-cast-line-of-three
-cast-line-of-three c = let s = c .before .before .before .before .before .before in omega (arith, few-images (s .args .r .now) (s .pre .0))
+cast-line-of-three c = let s = c .before .before .before .before .before .before in omega (arith, few-images (s .args .r .now) (s .pre .0), few-banks (s .args .r .now) (s .pre .0))
 
 cast-line-of-three-2 : tie.Need-cast-line-of-three-2
-cast-line-of-three-2 c = let s = c .before .before .before .before .before .before in omega (arith, few-banks (s .args .r .now) (s .pre .0))
+cast-line-of-three-2 c = let s = c .before .before .before .before .before .before in omega (arith, few-images (s .args .r .now) (s .pre .0), few-banks (s .args .r .now) (s .pre .0))
 
 read32-requires : tie.Need-read32-requires
 read32-requires c κs = omega (arith, inside (c .before .before))

@@ -10,7 +10,7 @@ use Rattle.refusals.specs.declared.Refusal.the-variants.{AreaLength, NoSoundCop
 use Rattle.record.specs.Layout.{recordOf, copy0, copy1}
 use Rattle.copies.proofs.Reading.{from-copy0, from-copy1}
 use Rattle.sheet.specs.Sheet.{recordLines, refusedLine, sheetIn}
-use Rattle.sheet.proofs.Whole.{refused-short, record-short, sheet-is, sheet-length, sheet-copy0, sheet-copy1, sheet-neither}
+use Rattle.sheet.proofs.Whole.{refused-room, record-room, sheet-is, sheet-length, sheet-copy0, sheet-copy1, sheet-neither}
 use Rattle.sheet.proofs.sheet.Statement.{statement}
 use Rattle.sheet.proofs.sheet.Tie as tie
 
@@ -21,7 +21,7 @@ returns c = rw (lt-leb _ _ (c .if1 .taken))
 refused-line-requires : tie.Need-refused-line-requires
 refused-line-requires c κs =
     let s = c .before .before .before .before .before in
-    omega (arith, refused-short AreaLength (omega arith), c .before .before .if1 .left)
+    refused-room AreaLength (s .args .out .now) (omega arith) (c .before .before .if1 .left)
 
 same-length : tie.Need-same-length
 same-length c = search needs
@@ -59,7 +59,7 @@ record-lines-requires c κs =
     let s = m .before .before .before .before .before in
     let a = s .args .area .now in
     let h = from-copy0 a (sym (m .read-source .ensures) ∙ t .enum-told .given .1) in
-    rw (c .record-in .ensures) (h, omega (arith, record-short (recordOf (copy0 a)) h 0 (omega arith), m .before .before .if1 .left))
+    rw (c .record-in .ensures) (h, record-room (recordOf (copy0 a)) h 0 (s .args .out .now) (omega arith) (m .before .before .if1 .left))
 
 enum-told-2 : tie.Need-enum-told-2
 enum-told-2 c = search needs
@@ -83,7 +83,7 @@ record-lines-requires-2 c κs =
     let s = m .before .before .before .before .before in
     let a = s .args .area .now in
     let h = from-copy1 a (sym (m .read-source .ensures) ∙ t .enum-told2 .given .1) in
-    rw (c .record-in2 .ensures) (h, omega (arith, record-short (recordOf (copy1 a)) h 1 (omega arith), m .before .before .if1 .left))
+    rw (c .record-in2 .ensures) (h, record-room (recordOf (copy1 a)) h 1 (s .args .out .now) (omega arith) (m .before .before .if1 .left))
 
 enum-told-3 : tie.Need-enum-told-3
 enum-told-3 c = search needs
@@ -91,7 +91,8 @@ enum-told-3 c = search needs
 refused-line-requires-2 : tie.Need-refused-line-requires-2
 refused-line-requires-2 c κs =
     let m = c .before .before .before in
-    omega (arith, refused-short NoSoundCopy (omega arith), m .before .before .if1 .left)
+    let s = m .before .before .before .before .before in
+    refused-room NoSoundCopy (s .args .out .now) (omega arith) (m .before .before .if1 .left)
 
 same-length-2 : tie.Need-same-length-2
 same-length-2 c = search needs

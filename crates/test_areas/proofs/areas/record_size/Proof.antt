@@ -3,8 +3,8 @@ use mathlib.Core.Path.{_≡_}
 use Prim.Native.Nat.{_≤_, _-_, _+_, _*_}
 use lib.ListN.{length}
 use borrow.Author.Needs.{needs}
-use Rattle.record_tests.proofs.areas.record_size.Statement.{statement}
-use Rattle.record_tests.proofs.areas.record_size.Tie as tie
+use Rattle.test_areas.proofs.areas.record_size.Statement.{statement}
+use Rattle.test_areas.proofs.areas.record_size.Tie as tie
 
 abbrev Inv-loop : tie.InvT-loop
 Inv-loop banks images size₀ i₀ size i = (i ≤ images) × (size ≤ 40 + 224 * i)

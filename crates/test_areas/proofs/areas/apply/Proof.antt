@@ -3,8 +3,8 @@ use mathlib.Core.Path.{_≡_}
 use Prim.Native.Nat.{_≤_, _-_, _+_, _*_}
 use lib.ListN.{length}
 use borrow.Author.Needs.{needs}
-use Rattle.record_tests.proofs.areas.apply.Statement.{statement}
-use Rattle.record_tests.proofs.areas.apply.Tie as tie
+use Rattle.test_areas.proofs.areas.apply.Statement.{statement}
+use Rattle.test_areas.proofs.areas.apply.Tie as tie
 
 abbrev Inv-loop : tie.InvT-loop
 Inv-loop a₀ out n i₀ a i = (i ≤ n) × (length a ≡ length a₀)

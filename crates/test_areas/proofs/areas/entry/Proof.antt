@@ -3,8 +3,8 @@ use mathlib.Core.Path.{_≡_}
 use Prim.Native.Nat.{_≤_, _-_, _+_, _*_}
 use lib.ListN.{length}
 use borrow.Author.Needs.{needs}
-use Rattle.record_tests.proofs.areas.entry.Statement.{statement}
-use Rattle.record_tests.proofs.areas.entry.Tie as tie
+use Rattle.test_areas.proofs.areas.entry.Statement.{statement}
+use Rattle.test_areas.proofs.areas.entry.Tie as tie
 
 abbrev Inv-loop : tie.InvT-loop
 Inv-loop a₀ at i banks b₀ a b = (b ≤ banks) × (length a ≡ length a₀)

@@ -3,8 +3,8 @@ use mathlib.Core.Path.{_≡_}
 use Prim.Native.Nat.{_≤_, _-_, _+_, _*_}
 use lib.ListN.{length}
 use borrow.Author.Needs.{needs}
-use Rattle.record_tests.proofs.areas.entries.Statement.{statement}
-use Rattle.record_tests.proofs.areas.entries.Tie as tie
+use Rattle.test_areas.proofs.areas.entries.Statement.{statement}
+use Rattle.test_areas.proofs.areas.entries.Tie as tie
 
 abbrev Inv-loop : tie.InvT-loop
 Inv-loop a₀ base banks images at₀ i₀ a at i = (i ≤ images) × (at ≤ 16424 + 224 * i) × (length a ≡ length a₀)
