@@ -117,7 +117,7 @@ other-placed a Copy1 e = into0 (copy0 a) (recordOf (copy1 a)) (from-copy1 a e)
 other-placed a Neither e = tt
 
 other-few : (a : List ℕ) (s : Source) → sourceOf a ≡ s → length (otherStores s a) ≤ 1035
-unfolding otherStores
+unfolding otherStores readFrom
 other-few a Copy0 e = few (copy1 a) (recordOf (copy0 a)) (from-copy0 a e) copySize
 other-few a Copy1 e = few (copy0 a) (recordOf (copy1 a)) (from-copy1 a e) 0
 other-few a Neither e = omega arith

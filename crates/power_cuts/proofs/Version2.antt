@@ -132,7 +132,7 @@ startedOf (some r) booted = startedFrom r booted
 startedOf none booted = refusedWith Restart NoSoundCopy
 
 started-shown : (s : Source) (a : List ℕ) (booted : ℕ) → startedAt s a booted ≡ startedOf (shown s a) booted
-unfolding startedAt
+unfolding startedAt readFrom
 started-shown Copy0 a booted = refl
 started-shown Copy1 a booted = refl
 started-shown Neither a booted = refl
@@ -181,7 +181,7 @@ change-is a new = refl
 
 repair-is : (a : List ℕ) → general.repairStores version2 planned a ≡ repairStores a
 unfolding general.repairStores general.equalCopies general.intoOther format.soundCopy format.recordOf version2 planned
-    repairStores soundAndEqual recordsEqual otherStores plan sourceOf soundCopy recordOf
+    repairStores soundAndEqual recordsEqual otherStores readFrom plan sourceOf soundCopy recordOf
 repair-is a = ap (cond (soundAndEqual a) []) (go (soundCopy (copy0 a)) (soundCopy (copy1 a)))
   where
     go : (s t : Bool)
@@ -198,13 +198,13 @@ listed a Copy1 b = plan 0 (copy0 a) (recordOf (copy1 a))
 listed a Neither b = []
 
 entry-listed : (a : List ℕ) (s : Source) → listed a s (soundAndEqual a) ≡ entry.repairStores s a
-unfolding entry.repairStores
+unfolding entry.repairStores readFrom
 entry-listed a Copy0 = refl
 entry-listed a Copy1 = refl
 entry-listed a Neither = refl
 
 entry-is : (a : List ℕ) → repairStores a ≡ entry.repairStores (sourceOf a) a
-unfolding repairStores otherStores sourceOf soundAndEqual
+unfolding repairStores otherStores readFrom sourceOf soundAndEqual
 entry-is a = go (soundCopy (copy0 a)) (soundCopy (copy1 a)) (recordsEqual a) ∙ entry-listed a (sourceOf a)
   where
     go : (s t e : Bool)

@@ -36,8 +36,8 @@ planned c r = writes r (differing c r (otherWords r))
 
 -- the stores of a repair: "none if the copies are sound and equal, else the record read goes into the other copy"
 unfoldable pub otherStores : Source → List ℕ → List Store
-otherStores Copy0 a = plan copySize (copy1 a) (recordOf (copy0 a))
-otherStores Copy1 a = plan 0 (copy0 a) (recordOf (copy1 a))
+otherStores Copy0 a = plan copySize (copy1 a) (readFrom Copy0 a)
+otherStores Copy1 a = plan 0 (copy0 a) (readFrom Copy1 a)
 otherStores Neither a = []
 
 unfoldable pub repairStores : List ℕ → List Store

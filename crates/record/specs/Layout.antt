@@ -128,7 +128,8 @@ abbrev pub reserved : List ℕ → ℕ → ℕ → ℕ
 reserved r i b = le 4 r (reservedAt (bankCount r) i b)
 
 -- the record in a copy: as many bytes as its size says, and the header in any case, so that its fields can be judged. Where the size is
--- right it is never below the header's
+-- right it is never below the header's. Where it is above 8,192, `take` stops at the copy's end: the record is then shorter than its size
+-- says, and rule 6 fails
 unfoldable pub recordOf : List ℕ → List ℕ
 recordOf c = take (cond (leb headerSize (size c)) (size c) headerSize) c
 

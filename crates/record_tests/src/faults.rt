@@ -1,8 +1,8 @@
 // Faults: each breaks one rule alone, in the record at base. The records have 4 banks and 2 images unless the case says
 // otherwise.
-use crate::areas::put8;
-use crate::areas::put16;
-use crate::areas::put32;
+use test_areas::put8;
+use test_areas::put16;
+use test_areas::put32;
 
 // Rules 1, 4, 5, 6 and 7.
 pub fn header(a: &mut [u8], base: usize, fault: u32) {

@@ -1,69 +1,13 @@
-// Start-up and repair on areas that break each of the fourteen rules alone, at both ends of its limit, in copy 0, in copy 1
-// and in both; and on document 01's samples. A line a case: its name, then for each area the session or the refusal's
-// number, the count of repair's stores, and what a second repair lists once they are done.
-mod areas;
+// Areas that break each of the fourteen rules alone, at both ends of its limit, in copy 0, in copy 1 and in both. A line a case:
+// its name, then for each area the session that start-up answers or the refusal's number, the count of repair's stores, and
+// what a second repair lists once they are done.
 mod faults;
 
-use areas::build;
-use areas::seal;
-use session::Answer;
-use session::Session;
-use session::Verdict;
-
-fn text(t: &[u8]) {
-    io::write_all(1, t);
-}
-
-fn show_session(s: Session) {
-    match s {
-        Session::Regular => text(b"Regular"),
-        Session::Staging { bank: _, set: _ } => text(b"Staging"),
-        Session::Trial => text(b"Trial"),
-        Session::Fallback => text(b"Fallback"),
-        Session::Restart => text(b"Restart"),
-    }
-}
-
-fn show_start(r: Answer) {
-    let v = r.verdict;
-    match v {
-        Verdict::Accepted => {
-            let s = r.session;
-            show_session(s);
-        }
-        Verdict::Refused(refusal) => {
-            text(b"refused ");
-            io::print_decimal(1, refusal.number() as u64);
-        }
-    }
-}
-
-fn show_count(r: Answer) {
-    let v = r.verdict;
-    match v {
-        Verdict::Accepted => {
-            io::print_decimal(1, r.stores as u64);
-        }
-        Verdict::Refused(refusal) => {
-            text(b"refused ");
-            io::print_decimal(1, refusal.number() as u64);
-        }
-    }
-}
-
-// Start-up with a booted bank, repair, and repair again once its stores are done.
-fn show(a: &mut [u8], booted: u32) {
-    text(b"\t");
-    show_start(start_up::start_up(a, booted));
-    let mut out = [0u32; 4200];
-    let first = repair::repair(a, &mut out);
-    text(b" ");
-    show_count(first);
-    areas::apply(a, &out, first.stores);
-    let second = repair::repair(a, &mut out);
-    text(b" ");
-    show_count(second);
-}
+use test_areas::build;
+use test_areas::put8;
+use test_areas::seal;
+use test_areas::show;
+use test_areas::text;
 
 // The fault in the record at base, where `this` is not 0.
 fn spoil(a: &mut [u8], base: usize, fault: u32, this: u8) {
@@ -132,7 +76,7 @@ fn harm(a: &mut [u8], at: usize, this: u8) {
     if this == 0 {
         return;
     }
-    areas::put8(a, at, 77);
+    put8(a, at, 77);
 }
 
 // Rule 14: a byte changed behind the checksum's back, in copy 0, in copy 1, in both.
@@ -155,47 +99,6 @@ fn damage(name: &[u8], at: usize) {
     damaged(at, 1);
     damaged(at, 2);
     damaged(at, 3);
-    text(b"\n");
-}
-
-// The booted bank, on 2 banks, and a bank's state.
-fn booted(name: &[u8], bank: u32, state: u8, accepted: u32) {
-    let mut a = [0u8; 16384];
-    build(&mut a, 0, 2, 1);
-    build(&mut a, 8192, 2, 1);
-    areas::put8(&mut a, 24, state);
-    areas::put32(&mut a, 88, accepted);
-    seal(&mut a, 0);
-    text(name);
-    show(&mut a, bank);
-    text(b"\n");
-}
-
-// A record in copy 0 alone, or none.
-fn first_only(a: &mut [u8], sound: bool) {
-    if !sound {
-        return;
-    }
-    build(a, 0, 2, 1);
-    seal(a, 0);
-}
-
-// Lengths: of the area, and of the store slice, by parts of larger arrays.
-fn lengths(name: &[u8], n: usize, m: usize, sound: bool) {
-    if 16400 < n {
-        return;
-    }
-    if 4300 < m {
-        return;
-    }
-    let mut a = [0u8; 16400];
-    first_only(&mut a, sound);
-    let mut out = [7u32; 4300];
-    text(name);
-    text(b"\t");
-    show_start(start_up::start_up(&a[0..n], 0));
-    text(b" ");
-    show_count(repair::repair(&a[0..n], &mut out[0..m]));
     text(b"\n");
 }
 
@@ -278,25 +181,6 @@ fn rules_13_to_14() {
     damage(b"a byte behind the record", 120);
 }
 
-fn booted_banks() {
-    booted(b"active, accepted", 0, 252, 1);
-    booted(b"active, valid", 0, 254, 0);
-    booted(b"not the active bank", 1, 252, 1);
-    booted(b"sample 14: two banks, booted bank 2", 2, 252, 1);
-    booted(b"booted bank 4294967295", 4294967295, 252, 1);
-}
-
-fn slice_lengths() {
-    lengths(b"area of 16383", 16383, 4300, true);
-    lengths(b"area of 16384", 16384, 4300, true);
-    lengths(b"area of 16385", 16385, 4300, true);
-    lengths(b"store slice of 4199", 16384, 4199, true);
-    lengths(b"store slice of 4200", 16384, 4200, true);
-    lengths(b"area before slice", 16383, 4199, true);
-    lengths(b"slice before copies", 16384, 4199, false);
-    lengths(b"no sound copy", 16384, 4200, false);
-}
-
 fn main() {
     rule_1();
     rule_2();
@@ -308,6 +192,4 @@ fn main() {
     rules_9_to_11();
     rule_12();
     rules_13_to_14();
-    booted_banks();
-    slice_lengths();
 }

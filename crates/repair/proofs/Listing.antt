@@ -9,7 +9,7 @@ use Rattle.record.specs.Layout.{copySize, bankCount, imageCount, recordOf, copy
 use Rattle.record.specs.Rules.{sound}
 use Rattle.record.proofs.Sound.{sound-sized}
 use Rattle.record.proofs.Sizes.{in-words, record-high, header-in}
-use Rattle.copies.specs.Copies.{soundAndEqual}
+use Rattle.copies.specs.Copies.{readFrom, soundAndEqual}
 use Rattle.copies.specs.declared.Source.the-variants.{Copy0, Copy1}
 use Rattle.session.specs.Outcome.{acceptedWith}
 use Rattle.session.specs.declared.Session.the-variants.{Restart}
@@ -32,12 +32,12 @@ was-listed n ss s new p = let h = added-all n ss s new p in rw (h .0, h .1)
 
 pub into-second : (a s new : List ℕ) (n : ℕ) → soundAndEqual a ≡ false → Added 0 n (plan copySize (copy1 a) (recordOf (copy0 a))) s new
     → (acceptedWith Restart n, new) ≡ repairedAt Copy0 a s
-unfolding repairedAt repairStores
+unfolding repairedAt repairStores readFrom
 into-second a s new n e p = rw e (was-listed n (plan copySize (copy1 a) (recordOf (copy0 a))) s new p)
 
 pub into-first : (a s new : List ℕ) (n : ℕ) → Added 0 n (plan 0 (copy0 a) (recordOf (copy1 a))) s new
     → (acceptedWith Restart n, new) ≡ repairedAt Copy1 a s
-unfolding repairedAt repairStores
+unfolding repairedAt repairStores readFrom
 into-first a s new n p = was-listed n (plan 0 (copy0 a) (recordOf (copy1 a))) s new p
 
 pub nothing-to-do : (a s : List ℕ) → soundAndEqual a ≡ true → (acceptedWith Restart 0, s) ≡ repairedAt Copy0 a s

@@ -4,6 +4,7 @@ use mathlib.Core.Path.{_≡_, refl, sym, ap, _∙_}
 use native.Mathlib.Omega.{arith}
 use borrow.Author.Needs.{needs}
 use Rattle.start_up.specs.StartUp.{sessionOf, startedFrom, startedAt, startUp}
+use Rattle.copies.specs.Copies.{readFrom}
 use Rattle.copies.proofs.Reading.{from-copy0, from-copy1}
 use Rattle.start_up.proofs.start_up.Statement.{statement}
 use Rattle.start_up.proofs.start_up.Tie as tie
@@ -69,14 +70,14 @@ refused-requires-2 : tie.Need-refused-requires-2
 refused-requires-2 c κs = search needs
 
 returns-2 : tie.Need-returns-2
-unfolding startUp startedAt
+unfolding startUp startedAt readFrom
 returns-2 c =
     let t = c .before .before .before in
     let m = t .before .before in
     rw (eq-eqb _ _ (m .before .if1 .left), sym (m .read-source .ensures) ∙ t .enum-told .given .1, ← c .before .record-in .ensures) (c .started .ensures)
 
 returns-3 : tie.Need-returns-3
-unfolding startUp startedAt
+unfolding startUp startedAt readFrom
 returns-3 c =
     let t = c .before .before .before in
     let m = t .before .before in

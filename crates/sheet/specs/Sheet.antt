@@ -1,0 +1,62 @@
+-- The bench sheet of an area (document 01, "The bench sheet"), as bytes. a is the bytes of the area, r those of the record read. "Record line: copy,
+-- size. Image lines: image, bank, accepted; images ascending, banks within. Refused: `refused`, tab, number." The other lines are those of the
+-- page's example. Assumes nothing.
+use Prim.Native.Nat.{ℕ}
+use mathlib.Core.Bool.{cond}
+use mathlib.Core.List.{List, [], _∷_, _++_}
+use lib.Dec.{eqb, leb}
+use lib.ListN.{length, drop}
+use Rattle.refusals.specs.Number.{numberOf}
+use Rattle.refusals.specs.declared.Refusal.{Refusal}
+use Rattle.refusals.specs.declared.Refusal.the-variants.{AreaLength, NoSoundCopy}
+use Rattle.record.specs.Layout.{areaSize, active, previous, size, state, bankCount, imageCount, accepted}
+use Rattle.copies.specs.Copies.{sourceOf, readFrom}
+use Rattle.copies.specs.declared.Source.{Source}
+use Rattle.copies.specs.declared.Source.the-variants.{Copy0, Copy1, Neither}
+use Rattle.sheet.specs.Text.{ascii, line, ascending}
+
+-- a line for each bank that the record has: bank, state
+unfoldable pub bankLine : List ℕ → ℕ → List ℕ
+bankLine r b = line (ascii "bank") (b ∷ state r b ∷ [])
+
+-- "Image lines: image, bank, accepted"
+unfoldable pub imageLine : List ℕ → ℕ → ℕ → List ℕ
+imageLine r i b = line (ascii "image") (i ∷ b ∷ accepted r i b ∷ [])
+
+-- "images ascending, banks within"
+unfoldable pub imageLines : List ℕ → ℕ → List ℕ
+imageLines r i = ascending (bankCount r) (imageLine r i)
+
+-- the first three lines; "Record line: copy, size."
+unfoldable pub headLines : ℕ → List ℕ → List ℕ
+headLines copy r =
+    line (ascii "record") (copy ∷ size r ∷ []) ++ (line (ascii "active") (active r ∷ []) ++ line (ascii "previous") (previous r ∷ []))
+
+unfoldable pub recordLines : ℕ → List ℕ → List ℕ
+recordLines copy r = headLines copy r ++ (ascending (bankCount r) (bankLine r) ++ ascending (imageCount r) (imageLines r))
+
+-- "Refused: `refused`, tab, number."
+unfoldable pub refusedLine : Refusal → List ℕ
+refusedLine refusal = line (ascii "refused") (numberOf refusal ∷ [])
+
+-- the lines of the record read; 21, "no sound copy"
+unfoldable pub sheetFrom : Source → List ℕ → List ℕ
+sheetFrom Copy0 a = recordLines 0 (readFrom Copy0 a)
+sheetFrom Copy1 a = recordLines 1 (readFrom Copy1 a)
+sheetFrom Neither a = refusedLine NoSoundCopy
+
+-- the sheet; 20, "area not 16,384 bytes", comes first
+unfoldable pub sheetOf : List ℕ → List ℕ
+sheetOf a = cond (eqb (length a) areaSize) (sheetFrom (sourceOf a) a) (refusedLine AreaLength)
+
+-- a slice of so many bytes holds every sheet
+abbrev pub sheetLimit : ℕ
+sheetLimit = 4096
+
+-- a slice with a text at its front, and every byte past it as it was
+unfoldable pub withText : List ℕ → List ℕ → List ℕ
+withText s t = t ++ drop (length t) s
+
+-- how many bytes are written, and the slice afterwards; in a slice that is too short for some sheet none is, and no sheet is empty
+unfoldable pub sheetIn : List ℕ → List ℕ → ℕ × List ℕ
+sheetIn a s = cond (leb sheetLimit (length s)) (length (sheetOf a), withText s (sheetOf a)) (0, s)

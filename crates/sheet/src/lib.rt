@@ -1,0 +1,224 @@
+// The bench sheet (document 01, "The bench sheet"): an area's record as lines of text, in a lent slice.
+use copies::AREA;
+use copies::COPY;
+use copies::Source;
+use copies::read_source;
+use fields::read16;
+use fields::read32;
+use record::entry_at;
+use record::record_in;
+use refusals::Refusal;
+ghost use mathlib.Core.Path.{_≡_};
+ghost use mathlib.Core.Bool.{true};
+ghost use mathlib.Core.List.{[], _∷_};
+ghost use Prim.Native.Nat.{_≤_, _<_};
+ghost use lib.ListN.{length};
+ghost use Rattle.refusals.specs.Number.{numberOf};
+ghost use Rattle.record.specs.Layout.{bankCount, imageCount};
+ghost use Rattle.record.specs.Rules.{sound};
+ghost use Rattle.sheet.specs.Text.{tab, digitOf, decimal, numbers, line, ascending};
+ghost use Rattle.sheet.specs.Sheet.{bankLine, imageLine, imageLines, headLines, recordLines, refusedLine, sheetIn};
+ghost use Rattle.sheet.specs.Wrote.{Room, Wrote};
+
+// How many bytes hold every sheet.
+pub const SHEET_LIMIT: usize = 4096;
+
+// One byte at k. Each function here answers the place behind what it wrote.
+fn put_byte(out: &mut [u8], k: usize, x: u8) -> usize
+    requires { ⌜ Room k (x ∷ []) (now out) ⌝ }
+    ensures { λ n. ⌜ Wrote k n (x ∷ []) (now (out .entry)) (now (out .exit)) ⌝ }
+{
+    out[k] = x;
+    k + 1
+}
+
+// A word.
+fn put_word(out: &mut [u8], k: usize, word: &[u8]) -> usize
+    requires { ⌜ Room k (now word) (now out) ⌝ }
+    ensures { λ n. ⌜ Wrote k n (now (word .entry)) (now (out .entry)) (now (out .exit)) ⌝ }
+{
+    let mut i = 0;
+    while i < word.len() {
+        out[k + i] = word[i];
+        i += 1;
+    }
+    k + i
+}
+
+// The digit of a number below ten.
+fn digit(x: u32) -> u8
+    requires { ⌜ x < 10 ⌝ }
+    ensures { λ d. ⌜ d ≡ digitOf x ⌝ }
+{
+    48 + x as u8
+}
+
+// A number's decimal digits: those of a tenth of it, then the last.
+fn put_decimal(out: &mut [u8], k: usize, x: u32) -> usize
+    requires { ⌜ Room k (decimal x) (now out) ⌝ }
+    ensures { λ n. ⌜ Wrote k n (decimal x) (now (out .entry)) (now (out .exit)) ⌝ }
+{
+    if x < 10 {
+        return put_byte(out, k, digit(x));
+    }
+    let n = put_decimal(out, k, x / 10);
+    put_byte(out, n, digit(x % 10))
+}
+
+// A tab and a number.
+fn put_number(out: &mut [u8], k: usize, x: u32) -> usize
+    requires { ⌜ Room k (tab ∷ decimal x) (now out) ⌝ }
+    ensures { λ n. ⌜ Wrote k n (tab ∷ decimal x) (now (out .entry)) (now (out .exit)) ⌝ }
+{
+    let n = put_byte(out, k, b'\t');
+    put_decimal(out, n, x)
+}
+
+// The last number of a line, and the line's end.
+fn put_last(out: &mut [u8], k: usize, x: u32) -> usize
+    requires { ⌜ Room k (numbers (x ∷ [])) (now out) ⌝ }
+    ensures { λ n. ⌜ Wrote k n (numbers (x ∷ [])) (now (out .entry)) (now (out .exit)) ⌝ }
+{
+    let n = put_number(out, k, x);
+    put_byte(out, n, b'\n')
+}
+
+// A line of a word and one number.
+fn line_of_one(out: &mut [u8], k: usize, word: &[u8], x: u32) -> usize
+    requires { ⌜ Room k (line (now word) (x ∷ [])) (now out) ⌝ }
+    ensures { λ n. ⌜ Wrote k n (line (now (word .entry)) (x ∷ [])) (now (out .entry)) (now (out .exit)) ⌝ }
+{
+    let n = put_word(out, k, word);
+    put_last(out, n, x)
+}
+
+// A line of a word and two numbers.
+fn line_of_two(out: &mut [u8], k: usize, word: &[u8], x: u32, y: u32) -> usize
+    requires { ⌜ Room k (line (now word) (x ∷ y ∷ [])) (now out) ⌝ }
+    ensures { λ n. ⌜ Wrote k n (line (now (word .entry)) (x ∷ y ∷ [])) (now (out .entry)) (now (out .exit)) ⌝ }
+{
+    let n = put_word(out, k, word);
+    let m = put_number(out, n, x);
+    put_last(out, m, y)
+}
+
+// A line of a word and three numbers.
+fn line_of_three(out: &mut [u8], k: usize, word: &[u8], x: u32, y: u32, z: u32) -> usize
+    requires { ⌜ Room k (line (now word) (x ∷ y ∷ z ∷ [])) (now out) ⌝ }
+    ensures { λ n. ⌜ Wrote k n (line (now (word .entry)) (x ∷ y ∷ z ∷ [])) (now (out .entry)) (now (out .exit)) ⌝ }
+{
+    let n = put_word(out, k, word);
+    let m = put_number(out, n, x);
+    let l = put_number(out, m, y);
+    put_last(out, l, z)
+}
+
+// The first three lines.
+fn head_lines(out: &mut [u8], copy: u32, r: &[u8]) -> usize
+    requires { ⌜ (sound (now r) ≡ true) × Room 0 (headLines copy (now r)) (now out) ⌝ }
+    ensures { λ n. ⌜ Wrote 0 n (headLines copy (now (r .entry))) (now (out .entry)) (now (out .exit)) ⌝ }
+{
+    let n = line_of_two(out, 0, b"record", copy, read32(r, 16));
+    let m = line_of_one(out, n, b"active", read32(r, 8));
+    line_of_one(out, m, b"previous", read32(r, 12))
+}
+
+// The line of bank b.
+fn bank_line(out: &mut [u8], k: usize, r: &[u8], b: usize) -> usize
+    requires { ⌜ (sound (now r) ≡ true) × (b < bankCount (now r)) × Room k (bankLine (now r) b) (now out) ⌝ }
+    ensures { λ n. ⌜ Wrote k n (bankLine (now (r .entry)) b) (now (out .entry)) (now (out .exit)) ⌝ }
+{
+    let at = 24 + b;
+    line_of_two(out, k, b"bank", b as u32, r[at] as u32)
+}
+
+// The lines of all banks.
+fn bank_lines(out: &mut [u8], k: usize, r: &[u8]) -> usize
+    requires { ⌜ (sound (now r) ≡ true) × Room k (ascending (bankCount (now r)) (bankLine (now r))) (now out) ⌝ }
+    ensures { λ n. ⌜ Wrote k n (ascending (bankCount (now (r .entry))) (bankLine (now (r .entry)))) (now (out .entry)) (now (out .exit)) ⌝ }
+{
+    let banks = r[32] as usize;
+    let mut n = k;
+    let mut b = 0;
+    while b < banks {
+        n = bank_line(out, n, r, b);
+        b += 1;
+    }
+    n
+}
+
+// The line of image i in bank b.
+fn image_line(out: &mut [u8], k: usize, r: &[u8], i: usize, b: usize) -> usize
+    requires { ⌜ (sound (now r) ≡ true) × (i < imageCount (now r)) × (b < bankCount (now r)) × Room k (imageLine (now r) i b) (now out) ⌝ }
+    ensures { λ n. ⌜ Wrote k n (imageLine (now (r .entry)) i b) (now (out .entry)) (now (out .exit)) ⌝ }
+{
+    let at = entry_at(r[32] as usize, i) + 32 + 24 * b + 16;
+    line_of_three(out, k, b"image", i as u32, b as u32, read32(r, at))
+}
+
+// The lines of image i in all banks.
+fn image_lines(out: &mut [u8], k: usize, r: &[u8], i: usize) -> usize
+    requires { ⌜ (sound (now r) ≡ true) × (i < imageCount (now r)) × Room k (imageLines (now r) i) (now out) ⌝ }
+    ensures { λ n. ⌜ Wrote k n (imageLines (now (r .entry)) i) (now (out .entry)) (now (out .exit)) ⌝ }
+{
+    let banks = r[32] as usize;
+    let mut n = k;
+    let mut b = 0;
+    while b < banks {
+        n = image_line(out, n, r, i, b);
+        b += 1;
+    }
+    n
+}
+
+// The lines of all images.
+fn all_images(out: &mut [u8], k: usize, r: &[u8]) -> usize
+    requires { ⌜ (sound (now r) ≡ true) × Room k (ascending (imageCount (now r)) (imageLines (now r))) (now out) ⌝ }
+    ensures { λ n. ⌜ Wrote k n (ascending (imageCount (now (r .entry))) (imageLines (now (r .entry)))) (now (out .entry)) (now (out .exit)) ⌝ }
+{
+    let images = read16(r, 34) as usize;
+    let mut n = k;
+    let mut i = 0;
+    while i < images {
+        n = image_lines(out, n, r, i);
+        i += 1;
+    }
+    n
+}
+
+// The lines of the record read, from copy 0 or 1.
+fn record_lines(out: &mut [u8], copy: u32, r: &[u8]) -> usize
+    requires { ⌜ (sound (now r) ≡ true) × Room 0 (recordLines copy (now r)) (now out) ⌝ }
+    ensures { λ n. ⌜ Wrote 0 n (recordLines copy (now (r .entry))) (now (out .entry)) (now (out .exit)) ⌝ }
+{
+    let n = head_lines(out, copy, r);
+    let m = bank_lines(out, n, r);
+    all_images(out, m, r)
+}
+
+// The line of a refusal.
+fn refused_line(out: &mut [u8], refusal: Refusal) -> usize
+    requires { ⌜ Room 0 (refusedLine refusal) (now out) ⌝ }
+    ensures { λ n. ⌜ Wrote 0 n (refusedLine refusal) (now (out .entry)) (now (out .exit)) ⌝ }
+{
+    line_of_one(out, 0, b"refused", refusal.number())
+}
+
+// Writes the sheet of an area at the front of `out` and answers how many bytes it has; every byte past it stays. A slice below
+// SHEET_LIMIT bytes stays whole, and the answer is 0, which no sheet has.
+pub fn sheet(area: &[u8], out: &mut [u8]) -> usize
+    ensures { λ n. ⌜ (n, now (out .exit)) ≡ sheetIn (now (area .entry)) (now (out .entry)) ⌝ }
+{
+    if out.len() < SHEET_LIMIT {
+        return 0;
+    }
+    if area.len() != AREA {
+        return refused_line(out, Refusal::AreaLength);
+    }
+    let from = read_source(area);
+    match from {
+        Source::Copy0 => record_lines(out, 0, record_in(&area[0..COPY])),
+        Source::Copy1 => record_lines(out, 1, record_in(&area[COPY..AREA])),
+        Source::Neither => refused_line(out, Refusal::NoSoundCopy),
+    }
+}
