@@ -1,0 +1,212 @@
+//! One input of one entry, answered: its input and its answer go into two digests, its outcome into a tally. The order in
+//! which numbers are taken is told in GENERATORS.md, "The digest".
+
+use crate::capsule;
+use crate::digest::{Digest, Tally};
+use crate::gather::gather;
+use crate::inputs::*;
+use crate::record;
+use crate::session::*;
+use crate::sheet::sheet;
+
+/// The entries, by name, in the order in which they are reported.
+pub const ENTRIES: [&str; 12] = [
+    "gather",
+    "capsule",
+    "start_up",
+    "repair",
+    "begin",
+    "commit",
+    "end",
+    "cancel",
+    "accept",
+    "select_previous",
+    "sheet",
+    "rules",
+];
+
+/// The digests of inputs and of answers, and the tally of outcomes.
+#[derive(Default)]
+pub struct Account {
+    pub inputs: Digest,
+    pub answers: Digest,
+    pub tally: Tally,
+}
+
+/// Makes input k of the entry and answers it. The text says what was answered, for a reader.
+pub fn answer(entry: &str, seed: u64, k: u64, account: &mut Account) -> String {
+    match entry {
+        "gather" => answer_gather(seed, k, account),
+        "capsule" => answer_capsule(seed, k, account),
+        "sheet" => answer_sheet(seed, k, account),
+        "rules" => answer_rules(seed, k, account),
+        _ => {
+            let place = ENTRIES.iter().position(|&e| e == entry).expect("an entry's name");
+            answer_call(place as u64 - 2, seed, k, account)
+        }
+    }
+}
+
+fn answer_gather(seed: u64, k: u64, account: &mut Account) -> String {
+    let mut input = gather_input(seed, k);
+    account.inputs.long(input.base);
+    account.inputs.long(input.first);
+    account.inputs.bytes(&input.window);
+    let answer = gather(&mut input.window, input.base, input.first);
+    let (number, place, total) = match answer {
+        Ok((place, total)) => (0, place, total),
+        Err(number) => (number, 0, 0),
+    };
+    account.answers.word(number);
+    account.answers.long(place);
+    account.answers.long(total);
+    account.answers.bytes(&input.window);
+    if number > 0 {
+        account.tally.add(&format!("refusal {number}"));
+    } else if place == input.base {
+        account.tally.add("accepted, at the window's start");
+    } else {
+        account.tally.add("accepted, further up");
+    }
+    format!(
+        "window {} bytes at {:#x}, first {:#x}: {:x?}",
+        input.window.len(),
+        input.base,
+        input.first,
+        answer
+    )
+}
+
+fn answer_capsule(seed: u64, k: u64, account: &mut Account) -> String {
+    let input = capsule_input(seed, k);
+    let (c, i) = (&input.capsule[..], input.item);
+    account.inputs.long(i);
+    account.inputs.bytes(c);
+    let number = capsule::refusal(c, i);
+    let parts = [capsule::item(c, i), capsule::image(c, i), capsule::vendor_code(c, i)];
+    let (guid, index, instance) = capsule::shown(c, i);
+    let (drivers, payloads) = capsule::counts(c);
+    account.answers.word(number);
+    for (start, length) in parts {
+        account.answers.long(start);
+        account.answers.long(length);
+    }
+    account.answers.bytes(&guid);
+    account.answers.word(index as u32);
+    account.answers.long(instance);
+    account.answers.word(drivers as u32);
+    account.answers.word(payloads as u32);
+    if number > 0 {
+        account.tally.add(&format!("refusal {number}"));
+    } else if i < drivers as u64 {
+        account.tally.add("accepted, driver");
+    } else if parts[1].0 - parts[0].0 == 32 {
+        account.tally.add("accepted, payload version 1");
+    } else {
+        account.tally.add("accepted, payload version 2");
+    }
+    format!(
+        "capsule of {} bytes, item {i}: refusal {number}, item, image, vendor code {parts:?}, guid {guid:02x?}, \
+index {index}, instance {instance:#x}, counts {drivers} and {payloads}",
+        c.len()
+    )
+}
+
+/// Kind, bank and set of a session, as the digest takes them.
+pub fn session_words(session: Session) -> (u32, u32, u32) {
+    match session {
+        Session::Regular => (0, 0, 0),
+        Session::Staging { bank, set } => (1, bank, set),
+        Session::Trial => (2, 0, 0),
+        Session::Fallback => (3, 0, 0),
+        Session::Restart => (4, 0, 0),
+    }
+}
+
+/// The call's answer: 0 start-up, 1 repair, 2 Begin, 3 Commit, 4 End, 5 Cancel, 6 Accept, 7 Select previous.
+pub fn call_answer(call: u64, i: &CallInput) -> Answer {
+    match call {
+        0 => start_up(&i.area, i.booted),
+        1 => repair(&i.area, i.slice_len),
+        2 => begin(i.session, &i.area, i.slice_len),
+        3 => commit(i.session, &i.area, i.slice_len, &i.guid, i.request),
+        4 => end(i.session, &i.area, i.slice_len),
+        5 => cancel(i.session, &i.area, i.slice_len),
+        6 => accept(i.session, &i.area, i.slice_len, &i.guid),
+        _ => select_previous(i.session, &i.area, i.slice_len),
+    }
+}
+
+fn take_session(digest: &mut Digest, session: Session) {
+    let (kind, bank, set) = session_words(session);
+    digest.word(kind);
+    digest.word(bank);
+    digest.word(set);
+}
+
+fn answer_call(call: u64, seed: u64, k: u64, account: &mut Account) -> String {
+    let input = call_input(call, seed, k);
+    take_session(&mut account.inputs, input.session);
+    account.inputs.long(input.slice_len);
+    account.inputs.bytes(&input.guid);
+    account.inputs.word(input.request);
+    account.inputs.word(input.booted);
+    account.inputs.bytes(&input.area);
+    let answer = call_answer(call, &input);
+    account.answers.word(answer.refusal);
+    account.answers.word(answer.missing);
+    take_session(&mut account.answers, answer.session);
+    account.answers.bytes(&answer.area);
+    if call == 1 {
+        account.answers.word(if repair_lists_none(&input.area, input.slice_len) { 1 } else { 0 });
+    }
+    let altered = if answer.area == input.area { "as it was" } else { "altered" };
+    if answer.refusal > 0 {
+        account.tally.add(&format!("refusal {}", answer.refusal));
+    } else {
+        let kind = session_words(answer.session).0;
+        let next = ["Regular", "Staging", "Trial", "Fallback", "Restart"][kind as usize];
+        account.tally.add(&format!("accepted, {next}, area {altered}"));
+    }
+    format!(
+        "{:?}, area of {} bytes, slice {}, guid {:02x?}, request {}, booted {}: refusal {}, missing {}, {:?}, area {altered}",
+        input.session,
+        input.area.len(),
+        input.slice_len,
+        input.guid,
+        input.request,
+        input.booted,
+        answer.refusal,
+        answer.missing,
+        answer.session
+    )
+}
+
+/// The sheet of the area that input k of start-up holds.
+fn answer_sheet(seed: u64, k: u64, account: &mut Account) -> String {
+    let area = call_input(0, seed, k).area;
+    account.inputs.bytes(&area);
+    let text = sheet(&area);
+    account.answers.bytes(text.as_bytes());
+    let first = text.lines().next().unwrap_or("");
+    account.tally.add(&first.split('\t').take(2).collect::<Vec<_>>().join(" "));
+    text
+}
+
+/// The first failing rule of both copies of the area that input k of repair holds; 99 where it isn't 16,384 bytes.
+fn answer_rules(seed: u64, k: u64, account: &mut Account) -> String {
+    let area = call_input(1, seed, k).area;
+    account.inputs.bytes(&area);
+    let mut text = String::new();
+    for copy in 0..2 {
+        let number = if area.len() == record::AREA {
+            record::first_failing_rule(record::copy_of(&area, copy))
+        } else {
+            99
+        };
+        account.answers.word(number);
+        account.tally.add(&format!("copy {copy}, rule {number:02}"));
+        text += &format!("copy {copy}: rule {number} ");
+    }
+    text
+}
