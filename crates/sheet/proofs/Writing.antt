@@ -2,13 +2,13 @@
 use mathlib.Core.Path.{_≡_, refl, sym, ap, _∙_}
 use mathlib.Core.List.{List, [], _∷_, _++_, append-nil}
 use Prim.Native.Nat.{ℕ, _+_, _≤_, _<_}
-use native.Mathlib.Nat.{add-zero, zero-add}
+use native.Mathlib.Nat.{add-zero}
 use native.Mathlib.Omega.{arith}
 use native.Mathlib.Numerals.{add-one}
-use lib.ListN.{length, take, drop, set, getD, length-set, length-append, length-take, take-append-drop}
+use lib.ListN.{length, take, set, getD, length-set, length-append, length-take, take-append-drop}
 use lib.Seq.{take-suc, take-all}
 use Rattle.fields.specs.Number.{put}
-use Rattle.fields.proofs.Put.{put-sets, put-length, put-more}
+use Rattle.fields.proofs.Put.{put-sets, put-more}
 use Rattle.sheet.specs.Wrote.{Room, Wrote}
 
 pub wrote-none : (k : ℕ) (out : List ℕ) → Wrote k k [] out out

@@ -1,6 +1,6 @@
 -- Document 01's example of a bench sheet, proved of the definition: "Two banks, one image, all accepted, active 0, previous 1, copy 0 read", with its
 -- line ends. Copy 1 and the bytes behind the record may be anything. Assumes nothing.
-use mathlib.Core.Path.{_≡_, refl}
+use mathlib.Core.Path.{_≡_}
 use mathlib.Core.List.{List, [], _∷_, _++_}
 use Prim.Native.Nat.{ℕ}
 use native.Mathlib.Omega.{arith}

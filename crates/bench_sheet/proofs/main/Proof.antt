@@ -1,5 +1,5 @@
 -- `main` is safe and ends: what the sheet's entry answers lies in the slice that it was lent. Assumes nothing.
-use mathlib.Core.Path.{_≡_, sym}
+use mathlib.Core.Path.{sym}
 use Prim.Native.Nat.{_≤_}
 use lib.ListN.{length}
 use lib.Seq.{length-take-le}

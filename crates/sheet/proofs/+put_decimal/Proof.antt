@@ -1,14 +1,13 @@
 -- `put_decimal` meets its contract. It calls itself for a tenth of the number: the measure is the number. Assumes nothing.
-use Prim.Native.Nat.{ℕ, _+_, _/_, _%_, _≤_, _<_}
-use mathlib.Core.List.{List, [], _∷_, _++_}
-use mathlib.Core.Path.{_≡_, refl, sym, ap, _∙_}
+use Prim.Native.Nat.{ℕ, _/_, _%_, _<_}
+use mathlib.Core.List.{[], _∷_}
+use mathlib.Core.Path.{ap}
 use native.Mathlib.Omega.{arith}
 use lib.ListN.{length}
 use borrow.Author.Needs.{needs}
 use borrow.Fn.Kinds.{In}
 use borrow.Fn.PlainCycle.{Measures, is, falls, and}
 use Rattle.sheet.specs.Text.{digitOf, decimal}
-use Rattle.sheet.specs.Wrote.{Room, Wrote}
 use Rattle.sheet.proofs.Digits.{decimal-low, decimal-more}
 use Rattle.sheet.proofs.Writing.{wrote-then, room-first, room-then}
 use Rattle.sheet.proofs.put_decimal.Reads as put-decimal

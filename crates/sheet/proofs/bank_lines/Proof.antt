@@ -1,14 +1,13 @@
 -- `bank_lines` meets its contract. The loop's invariant: the lines of the banks below b are written. Assumes nothing.
-use Prim.Native.Nat.{ℕ, _+_, _*_, _-_, _/_, _%_, _≤_, _<_}
-use mathlib.Core.List.{List, [], _∷_, _++_}
-use mathlib.Core.Path.{_≡_, refl, sym, ap, _∙_}
+use Prim.Native.Nat.{_-_, _≤_, _<_}
+use mathlib.Core.Path.{_≡_, refl}
 use native.Mathlib.Omega.{arith}
 use lib.ListN.{length}
 use borrow.Author.Needs.{needs}
 use Rattle.sheet.proofs.Known.{header, few-banks}
 use Rattle.record.specs.Layout.{bankCount}
 use Rattle.sheet.specs.Text.{ascending}
-use Rattle.sheet.specs.Sheet.{bankLine, imageLine, imageLines}
+use Rattle.sheet.specs.Sheet.{bankLine}
 use Rattle.sheet.specs.Wrote.{Wrote}
 use Rattle.sheet.proofs.Lines.{lines-none, lines-room, lines-more}
 use Rattle.sheet.proofs.bank_lines.Statement.{statement}

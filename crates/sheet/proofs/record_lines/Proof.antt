@@ -1,9 +1,6 @@
 -- `record_lines` meets its contract. Assumes nothing.
-use Prim.Native.Nat.{ℕ, _+_, _*_, _-_, _/_, _%_, _≤_, _<_}
-use mathlib.Core.List.{List, [], _∷_, _++_}
-use mathlib.Core.Path.{_≡_, refl, sym, ap, _∙_}
-use native.Mathlib.Omega.{arith}
-use lib.ListN.{length}
+use Prim.Native.Nat.{ℕ}
+use mathlib.Core.List.{List, _++_}
 use borrow.Author.Needs.{needs}
 use Rattle.record.specs.Layout.{bankCount, imageCount}
 use Rattle.sheet.specs.Text.{ascending}
