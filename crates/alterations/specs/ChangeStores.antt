@@ -1,6 +1,6 @@
 -- The stores of a change (document 01, "Session and calls": "After all stores both copies hold the new record and every other byte of the area
 -- is as before."). Which stores are listed, and in what order, is open there; this is what is listed. That it does what that sentence says, and
--- survives every cut, is shown in crates/power_cuts. a is the bytes of an area, new those of the record to be written. Assumes nothing.
+-- survives every cut, is said of the calls' own lists in crates/demand3/specs/Demand3.antt (`Survives`). a is the bytes of an area, new those of the record to be written. Assumes nothing.
 use Prim.Native.Nat.{ℕ}
 use mathlib.Core.Bool.{cond}
 use mathlib.Core.List.{List, [], _++_}

@@ -2,9 +2,8 @@
 -- the record read goes into the other copy."). a is the bytes of the area, s the numbers of the store slice.
 --
 -- Which stores are listed, and in what order, is the team's choice (`plan` of crates/stores/specs/Stores.antt): "Open is only which stores are
--- listed and in what order". What document 01 asks of them are laws of crate `power_cuts`: the area after all stores (`Demand3.repair`) and the
--- cuts (`Demand3.anywhere`) in its specs/Version2.antt, the rules on offsets and on the slice (`StoreRules.repair-placed`, `repair-count`)
--- in its specs/Offsets.antt. That they speak of these very stores is `Demand3.entry-lists`. Assumes nothing.
+-- listed and in what order". What document 01 asks of them, the area after all stores, the rules on offsets and on the slice, and the cuts, is said of
+-- these very stores in crates/demand3/specs/Demand3.antt (`Repairs`, `Lasts`). Assumes nothing.
 use Prim.Native.Nat.{ℕ}
 use mathlib.Core.Bool.{cond}
 use mathlib.Core.List.{List, []}
@@ -15,16 +14,8 @@ use Rattle.record.specs.Layout.{areaSize, copySize, copy0, copy1}
 use Rattle.copies.specs.Copies.{sourceOf, readFrom, soundAndEqual}
 use Rattle.copies.specs.declared.Source.{Source}
 use Rattle.copies.specs.declared.Source.the-variants.{Copy0, Copy1, Neither}
-use Rattle.session.specs.Outcome.{Outcome, refusedWith, acceptedWith}
-use Rattle.session.specs.declared.Session.{Session}
-use Rattle.session.specs.declared.Session.the-variants.{Restart}
+use Rattle.session.specs.Outcome.{Outcome, noSession, refusedWith, acceptedWith}
 use Rattle.stores.specs.Stores.{Store, storeNumbers, plan, withList}
-
--- "A refusal gives .. the session as it was where one was given", and an accepted call "answers the next session": repair is given none and
--- leads to none, yet its answer holds one. Restart stands for none there, since from it no call leads on; a caller must not take it for the
--- next session. As in crates/start_up/specs/StartUp.antt
-abbrev pub noSession : Session
-noSession = Restart
 
 -- "none if the copies are sound and equal, else the record read goes into the other copy"
 unfoldable pub repairStores : Source → List ℕ → List Store

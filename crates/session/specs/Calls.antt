@@ -35,7 +35,8 @@ refusedBy q why s = ((q, why, 0), s)
 unfoldable pub refusedCall : Session → Refusal → (s : List ℕ) → Result
 refusedCall q why s = refusedBy q (refused why) s
 
--- "An accepted call answers the next session and a list of stores": those that put the new record into both copies
+-- "An accepted call answers the next session and a list of stores": those that put the new record into both copies. What must hold of the list is
+-- said in crates/demand3/specs/Demand3.antt (`Survives`)
 unfoldable pub changedTo : (next : Session) (a new s : List ℕ) → Result
 changedTo next a new s = (acceptedWith next (length (changeStores a new)), withList s (changeStores a new))
 

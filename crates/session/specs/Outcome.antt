@@ -5,6 +5,7 @@ use mathlib.Core.List.{List}
 use Rattle.refusals.specs.Number.{numberOf, valuesOf}
 use Rattle.refusals.specs.declared.Refusal.{Refusal}
 use Rattle.session.specs.declared.Session.{Session}
+use Rattle.session.specs.declared.Session.the-variants.{Restart}
 use Rattle.session.specs.declared.Verdict.{Verdict}
 use Rattle.session.specs.declared.Verdict.the-variants.{Accepted, Refused}
 use Rattle.session.specs.declared.Answer.{Answer}
@@ -35,3 +36,8 @@ refusedWith s r = (s, refused r, 0)
 -- "An accepted call answers the next session and a list of stores"
 abbrev pub acceptedWith : Session → ℕ → Outcome
 acceptedWith s n = (s, accepted, n)
+
+-- "A refusal gives .. the session as it was where one was given": none is given to start-up or to repair, and repair leads to none. Where an answer
+-- has none to show it shows Restart, from which no call leads on; a caller must not take it for the next session
+abbrev pub noSession : Session
+noSession = Restart

@@ -11,14 +11,9 @@ use Rattle.record.specs.Rules.{acceptedBank}
 use Rattle.copies.specs.Copies.{sourceOf, readFrom}
 use Rattle.copies.specs.declared.Source.{Source}
 use Rattle.copies.specs.declared.Source.the-variants.{Copy0, Copy1, Neither}
-use Rattle.session.specs.Outcome.{Outcome, refusedWith, acceptedWith}
+use Rattle.session.specs.Outcome.{Outcome, noSession, refusedWith, acceptedWith}
 use Rattle.session.specs.declared.Session.{Session}
-use Rattle.session.specs.declared.Session.the-variants.{Regular, Trial, Fallback, Restart}
-
--- "A refusal gives .. the session as it was where one was given": none is given to start-up, yet its answer holds one. Restart stands for none
--- there, since from it no call leads on; a caller must not take it for the next session
-abbrev pub noSession : Session
-noSession = Restart
+use Rattle.session.specs.declared.Session.the-variants.{Regular, Trial, Fallback}
 
 -- "Fallback if it isn't the active one, else Regular if the active bank is 252, else Trial."
 unfoldable pub sessionOf : List ℕ → ℕ → Session

@@ -40,6 +40,9 @@ differing c r (o ∷ os) = cond (eqb (le 4 c o) (le 4 r o)) (differing c r os) (
 
 -- the first store makes the copy's version 0, the last one sets it right, and between them stand the words that differ: no mixture is sound,
 -- whatever its CRC
+-- Which stores are listed, and in what order, is the team's choice: "Open is only which stores are listed and in what order". What document 01
+-- asks of them is said of the calls' and of repair's own lists in crates/demand3/specs/Demand3.antt, and of `plan` itself in
+-- crates/power_cuts/specs/Offsets.antt
 unfoldable pub writes : List ℕ → List ℕ → List Store
 writes r os = (versionAt, 0) ∷ (map (store r) os ++ (store r versionAt ∷ []))
 
