@@ -3,7 +3,7 @@
 fn main() {
     let mut area = [0u8; 16385];
     let n = io::read_full(0, &mut area);
-    let mut text = [0u8; 4096];
+    let mut text = [0u8; sheet::SHEET_LIMIT];
     let m = sheet::sheet(&area[..n], &mut text);
     io::write_all(1, &text[..m]);
 }

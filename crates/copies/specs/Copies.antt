@@ -8,15 +8,19 @@ use Rattle.record.specs.Rules.{soundCopy}
 use Rattle.copies.specs.declared.Source.{Source}
 use Rattle.copies.specs.declared.Source.the-variants.{Copy0, Copy1, Neither}
 
--- "The record read is copy 0 if sound, else copy 1 if sound."
+-- the copy of which the record is read: "copy 0 if sound, else copy 1 if sound"
 unfoldable pub sourceOf : List ℕ → Source
 sourceOf a = cond (soundCopy (copy0 a)) Copy0 (cond (soundCopy (copy1 a)) Copy1 Neither)
 
--- the record read from there
+-- the record in that copy
 unfoldable pub readFrom : Source → List ℕ → List ℕ
 readFrom Copy0 a = recordOf (copy0 a)
 readFrom Copy1 a = recordOf (copy1 a)
 readFrom Neither a = []
+
+-- "The record read is copy 0 if sound, else copy 1 if sound."
+abbrev pub recordRead : List ℕ → List ℕ
+recordRead a = readFrom (sourceOf a) a
 
 -- "Copies are equal if their records are, byte for byte."
 unfoldable pub recordsEqual : List ℕ → Bool

@@ -10,7 +10,7 @@ use lib.Seq.{take-length}
 use Rattle.fields.specs.Number.{Bytes}
 use Rattle.record.specs.Layout.{areaSize, recordOf, copy0}
 use Rattle.record.specs.Rules.{sound}
-use Rattle.copies.specs.Copies.{sourceOf, soundAndEqual}
+use Rattle.copies.specs.Copies.{sourceOf, soundAndEqual, recordRead}
 use Rattle.stores.specs.Stores.{Store, storeNumbers}
 use Rattle.alterations.specs.ChangeStores.{changeStores}
 use Rattle.session.specs.declared.Session.{Session}
@@ -25,7 +25,7 @@ use Rattle.power_cuts.specs.Offsets.{InEither}
 use Rattle.power_cuts.proofs.Runs.{stores-bytes}
 use Rattle.power_cuts.proofs.Version2.{area-of, both-of, cut-is, power-cuts-2, any-change}
 use Rattle.power_cuts.proofs.Offsets.{each-weaken, store-rules}
-use Rattle.demand3.specs.Demand3.{Call, resultOf, Accepted, listOf, Listed, BothHold, newRecord, recordRead, Event, repairWith, afterDecision, afterEvent, afterList, InRange, Survives, Repairs, Demand3}
+use Rattle.demand3.specs.Demand3.{Call, resultOf, Accepted, listOf, Listed, BothHold, newRecord, Event, repairWith, afterDecision, afterEvent, afterList, InRange, Survives, Repairs, Demand3}
 use Rattle.demand3.proofs.Laid.{read-back, whole}
 use Rattle.demand3.proofs.Changed.{Changed, changed}
 use Rattle.demand3.proofs.Events.{both-held, both-hold, Mends, mends, accepted-is, repair-lists, Good, lasts}

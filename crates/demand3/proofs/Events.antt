@@ -15,7 +15,7 @@ use Rattle.refusals.specs.declared.Refusal.the-variants.{AreaLength, NoSoundCop
 use Rattle.refusals.specs.Number.{numberOf, valuesOf}
 use Rattle.record.specs.Layout.{areaSize, recordOf, copy0, copy1}
 use Rattle.record.specs.Rules.{soundCopy}
-use Rattle.copies.specs.Copies.{sourceOf, readFrom, recordsEqual, soundAndEqual}
+use Rattle.copies.specs.Copies.{sourceOf, readFrom, recordsEqual, soundAndEqual, recordRead}
 use Rattle.copies.specs.declared.Source.{Source}
 use Rattle.copies.specs.declared.Source.the-variants.{Copy0, Copy1, Neither}
 use Rattle.fields.proofs.Guid.{same-true}
@@ -35,7 +35,6 @@ use Rattle.demand3.specs.Demand3.{
   Accepted,
   listOf,
   BothHold,
-  recordRead,
   Event,
   startUpWith,
   repairWith,

@@ -11,7 +11,7 @@ use lib.ListN.{length, drop, getD}
 use Rattle.fields.specs.Number.{Bytes}
 use Rattle.record.specs.Layout.{areaSize, recordOf, copy0, copy1}
 use Rattle.record.specs.Rules.{sound, soundCopy}
-use Rattle.copies.specs.Copies.{sourceOf, readFrom, soundAndEqual}
+use Rattle.copies.specs.Copies.{sourceOf, recordRead, soundAndEqual}
 use Rattle.copies.specs.declared.Source.the-variants.{Neither}
 use Rattle.stores.specs.Stores.{Store, withList}
 use Rattle.changes.specs.NewRecord.{imageWith, begunRecord, committedRecord, endedRecord, acceptedRecord, exchangedRecord}
@@ -83,9 +83,6 @@ newRecord (accept g) r = acceptedRecord (imageWith g r) r
 newRecord selectPrevious r = exchangedRecord r
 
 -- ---- "What start-up reads is the record read, as defined above"
-abbrev pub recordRead : List ℕ → List ℕ
-recordRead a = readFrom (sourceOf a) a
-
 -- ---- "A list in demand 3 holds start-ups with any booted bank and repairs with any store slice, in any order, those refused by 28 or 23 too."
 -- a repair is cut after n of its stores
 pub data Event : Type 0 where

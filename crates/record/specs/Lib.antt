@@ -1,4 +1,4 @@
--- The record: its layout, the rules of soundness, and the copies of an area. Assumes nothing.
+-- The record: its layout and the rules of soundness. Assumes nothing.
 pub mod Layout
 pub mod Every
 pub mod Rules

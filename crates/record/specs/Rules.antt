@@ -30,8 +30,8 @@ bankEntrySizeRule r = eqb (bankEntrySize r) 24
 unfoldable pub imageEntrySizeRule : List ℕ → Bool
 imageEntrySizeRule r = eqb (imageEntrySize r) (entrySize (bankCount r))
 
--- 6: "size 40 + images x entry size"; and the record is as many bytes long, which `recordOf` takes care of for a copy of 8,192 bytes, and which
--- keeps a list of other bytes that only names such a size from being called a record
+-- 6: "size 40 + images x entry size"; and the record is as many bytes long. `recordOf` takes so many from a copy where the size is from 40 to 8,192;
+-- a larger one fails here
 unfoldable pub sizeRule : List ℕ → Bool
 sizeRule r = eqb (size r) (recordSize (bankCount r) (imageCount r)) && eqb (length r) (size r)
 
@@ -92,7 +92,7 @@ bankConsistent r b =
 unfoldable pub banksRule : List ℕ → Bool
 banksRule r = below (bankCount r) (bankConsistent r) && not (eqb (state r (active r)) invalid)
 
--- 14: "the CRC agrees"; "over bytes 4 to size"
+-- 14: "the CRC agrees"; "over bytes 4 to size", where r ends by rule 6
 unfoldable pub crcRule : List ℕ → Bool
 crcRule r = eqb (crc r) (crc32Of (drop 4 r))
 

@@ -1,5 +1,5 @@
--- What an answer states (document 01, "Session and calls" and "When the bench says no"): the session, the refusal's number if there is one,
--- and how many pairs (offset, word) stand in the store list. Assumes nothing.
+-- What an answer states (document 01, "Session and calls" and "When the bench says no"): the session, the refusal's number if there is one
+-- and what it tells beside, and how many pairs (offset, word) stand in the store list. Assumes nothing.
 use Prim.Native.Nat.{ℕ}
 use mathlib.Core.List.{List}
 use Rattle.refusals.specs.Number.{numberOf, valuesOf}

@@ -1,6 +1,6 @@
 -- The bench sheet of an area (document 01, "The bench sheet"), as bytes. a is the bytes of the area, r those of the record read. "Record line: copy,
 -- size. Image lines: image, bank, accepted; images ascending, banks within. Refused: `refused`, tab, number." The other lines are those of the
--- page's example. Assumes nothing.
+-- page's example. The sheet is no call: it needs one sound copy, so 22 is not for it, and a refused area has a sheet too. Assumes nothing.
 use Prim.Native.Nat.{ℕ}
 use mathlib.Core.Bool.{cond}
 use mathlib.Core.List.{List, [], _∷_, _++_}
@@ -23,7 +23,7 @@ bankLine r b = line (ascii "bank") (b ∷ state r b ∷ [])
 unfoldable pub imageLine : List ℕ → ℕ → ℕ → List ℕ
 imageLine r i b = line (ascii "image") (i ∷ b ∷ accepted r i b ∷ [])
 
--- "images ascending, banks within"
+-- "banks within"
 unfoldable pub imageLines : List ℕ → ℕ → List ℕ
 imageLines r i = ascending (bankCount r) (imageLine r i)
 
@@ -32,6 +32,7 @@ unfoldable pub headLines : ℕ → List ℕ → List ℕ
 headLines copy r =
     line (ascii "record") (copy ∷ size r ∷ []) ++ (line (ascii "active") (active r ∷ []) ++ line (ascii "previous") (previous r ∷ []))
 
+-- then the banks, then the images; "images ascending"
 unfoldable pub recordLines : ℕ → List ℕ → List ℕ
 recordLines copy r = headLines copy r ++ (ascending (bankCount r) (bankLine r) ++ ascending (imageCount r) (imageLines r))
 
@@ -57,6 +58,7 @@ sheetLimit = 4096
 unfoldable pub withText : List ℕ → List ℕ → List ℕ
 withText s t = t ++ drop (length t) s
 
--- how many bytes are written, and the slice afterwards; in a slice that is too short for some sheet none is, and no sheet is empty
+-- How many bytes are written, and the slice afterwards. A slice below 4,096 bytes stays as it was and the count is 0; no sheet is empty, so 0 means
+-- just that
 unfoldable pub sheetIn : List ℕ → List ℕ → ℕ × List ℕ
 sheetIn a s = cond (leb sheetLimit (length s)) (length (sheetOf a), withText s (sheetOf a)) (0, s)
