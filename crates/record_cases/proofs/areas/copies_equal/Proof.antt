@@ -1,7 +1,5 @@
 -- Safety alone: the loop counts up to its end. Assumes nothing.
-use mathlib.Core.Path.{_≡_}
-use Prim.Native.Nat.{_≤_, _<_, _-_, _+_, _*_}
-use lib.ListN.{length}
+use Prim.Native.Nat.{_≤_, _-_}
 use borrow.Author.Needs.{needs}
 use Rattle.record_cases.proofs.areas.copies_equal.Statement.{statement}
 use Rattle.record_cases.proofs.areas.copies_equal.Tie as tie

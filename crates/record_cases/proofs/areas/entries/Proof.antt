@@ -1,6 +1,6 @@
 -- Safety alone: the loop counts up to its end. Assumes nothing.
 use mathlib.Core.Path.{_≡_}
-use Prim.Native.Nat.{_≤_, _<_, _-_, _+_, _*_}
+use Prim.Native.Nat.{_≤_, _-_}
 use lib.ListN.{length}
 use borrow.Author.Needs.{needs}
 use Rattle.record_cases.proofs.areas.entries.Statement.{statement}
