@@ -1,0 +1,62 @@
+-- Safety alone: the loop counts up to its end. Assumes nothing.
+use Prim.Native.Nat.{_≤_, _-_}
+use borrow.Author.Needs.{needs}
+use Rattle.cut_tests.proofs.areas.same_record.Statement.{statement}
+use Rattle.cut_tests.proofs.areas.same_record.Tie as tie
+
+abbrev Inv-loop : tie.InvT-loop
+Inv-loop a base pair to n i₀ i = i ≤ n
+
+abbrev μ-loop : tie.MeasureT-loop
+μ-loop a base pair to n i₀ i = n - i
+
+returns : tie.Need-returns Inv-loop μ-loop
+returns c = search needs
+
+add-word : tie.Need-add-word Inv-loop μ-loop
+add-word c = search needs
+
+word-requires : tie.Need-word-requires Inv-loop μ-loop
+word-requires c κs = search needs
+
+at-most-kept-requires : tie.Need-at-most-kept-requires Inv-loop μ-loop
+at-most-kept-requires c κs = search needs
+
+loop-holds : tie.Need-loop-holds Inv-loop μ-loop
+loop-holds c = search needs
+
+same-byte-requires : tie.Need-same-byte-requires Inv-loop μ-loop
+same-byte-requires c κs = search needs
+
+returns-2 : tie.Need-returns-2 Inv-loop μ-loop
+returns-2 c = search needs
+
+add-i : tie.Need-add-i Inv-loop μ-loop
+add-i c = search needs
+
+loop-less : tie.Need-loop-less Inv-loop μ-loop
+loop-less c = search needs
+
+loop-again : tie.Need-loop-again Inv-loop μ-loop
+loop-again c = search needs
+
+returns-3 : tie.Need-returns-3 Inv-loop μ-loop
+returns-3 c = search needs
+
+pub same-record-spec : {M : Type 1} → statement M
+same-record-spec =
+    tie.close
+    (tie.spec
+    Inv-loop
+    μ-loop
+    returns
+    add-word
+    word-requires
+    at-most-kept-requires
+    loop-holds
+    same-byte-requires
+    returns-2
+    add-i
+    loop-less
+    loop-again
+    returns-3)

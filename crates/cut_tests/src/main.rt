@@ -1,0 +1,211 @@
+// Power cuts (document 01, "Power cuts"): each call of a change is cut after every number of its stores; after each cut the record is read and
+// a repair made, which is cut after every number of its stores too; and after each of these cuts another repair, cut in the same way. The
+// cases stand in the file stdin, a script for crate record_cases. A line a change: its stores, and what Tally counts (src/tally.rt).
+mod areas;
+mod tally;
+
+use areas::keep;
+use areas::keep_record;
+use areas::restore;
+use areas::seen;
+use areas::settled;
+use areas::starts_right;
+use record_cases::areas::apply;
+use record_cases::cases;
+use record_cases::cases::Case;
+use record_cases::script;
+use record_cases::script::Line;
+use record_cases::shown;
+use tally::Tally;
+
+// A read after a repair's cut: the same record as before, and if the repair has finished both copies sound and equal.
+fn read_again(a: &[u8], pair: &[u8], before: u32, finished: bool, t: Tally) -> Tally {
+    let same = seen(a, pair) == before;
+    let right = same && (!finished || settled(a));
+    let counted = tally::read(t, right, finished);
+    tally::start(counted, starts_right(a))
+}
+
+// The second repair, cut after n of its stores.
+fn second_cut(
+    a: &mut [u8],
+    pair: &[u8],
+    before: u32,
+    list: &[u32],
+    all: usize,
+    n: usize,
+    t: Tally,
+) -> Tally {
+    apply(a, list, n);
+    read_again(a, pair, before, n == all, t)
+}
+
+// The second repair, at every cut.
+fn second(a: &mut [u8], pair: &[u8], before: u32, t: Tally) -> Tally {
+    let mut from = [0u8; 1280];
+    keep(&mut from, a);
+    let mut list = [0u32; 4200];
+    let r = repair::repair(a, &mut list);
+    let all = r.stores;
+    let mut now = tally::repair(t);
+    if 2100 < all {
+        return now;
+    }
+    let mut n = 0;
+    while n <= all {
+        restore(a, &from);
+        now = second_cut(a, pair, before, &list, all, n, now);
+        n += 1;
+    }
+    now
+}
+
+// The first repair, cut after n of its stores, and the second one behind it.
+fn first_cut(
+    a: &mut [u8],
+    pair: &[u8],
+    before: u32,
+    list: &[u32],
+    all: usize,
+    n: usize,
+    t: Tally,
+) -> Tally {
+    apply(a, list, n);
+    let now = read_again(a, pair, before, n == all, t);
+    second(a, pair, before, now)
+}
+
+// The first repair, at every cut.
+fn first(a: &mut [u8], pair: &[u8], before: u32, t: Tally) -> Tally {
+    let mut from = [0u8; 1280];
+    keep(&mut from, a);
+    let mut list = [0u32; 4200];
+    let r = repair::repair(a, &mut list);
+    let all = r.stores;
+    let mut now = tally::repair(t);
+    if 2100 < all {
+        return now;
+    }
+    let mut n = 0;
+    while n <= all {
+        restore(a, &from);
+        now = first_cut(a, pair, before, &list, all, n, now);
+        n += 1;
+    }
+    now
+}
+
+// The change, cut after n of its stores, and the repairs behind it.
+fn change_cut(a: &mut [u8], pair: &[u8], list: &[u32], n: usize, t: Tally) -> Tally {
+    apply(a, list, n);
+    let which = seen(a, pair);
+    let new_before = t.new != 0;
+    let now = tally::cut(t, which, new_before);
+    first(a, pair, which, tally::start(now, starts_right(a)))
+}
+
+// The change at every cut; at the end the area is as it was.
+fn cuts(a: &mut [u8], pair: &[u8], list: &[u32], all: usize) -> Tally {
+    let mut from = [0u8; 1280];
+    keep(&mut from, a);
+    let mut now = tally::none();
+    if 2100 < all {
+        return now;
+    }
+    let mut n = 0;
+    while n <= all {
+        restore(a, &from);
+        now = change_cut(a, pair, list, n, now);
+        n += 1;
+    }
+    restore(a, &from);
+    now
+}
+
+// The old record and the new one, the area as it was.
+fn keep_pair(pair: &mut [u8], a: &mut [u8], list: &[u32], all: usize) {
+    let mut from = [0u8; 1280];
+    keep(&mut from, a);
+    keep_record(pair, 0, a);
+    apply(a, list, all);
+    keep_record(pair, 640, a);
+    restore(a, &from);
+}
+
+fn count_of(stores: usize) -> u32 {
+    if stores < 4294967296 {
+        stores as u32
+    } else {
+        0
+    }
+}
+
+// The change that a line's call makes.
+fn simulate(case: Case, line: Line, a: &mut [u8]) {
+    let session = case.session;
+    let letter = line.letter;
+    let mut list = [0u32; 4200];
+    let r = cases::call(session, line, a, &mut list);
+    let all = r.stores;
+    let mut pair = [0u8; 1280];
+    keep_pair(&mut pair, a, &list, all);
+    let t = cuts(a, &pair, &list, all);
+    shown::text(b"\t");
+    shown::show_name(letter);
+    shown::text(b"\t");
+    shown::show_start(r);
+    shown::column(count_of(all));
+    tally::show(t);
+    shown::text(b"\n");
+}
+
+fn line_done(case: Case, line: Line, a: &mut [u8]) -> Case {
+    let letter = line.letter;
+    match letter {
+        b'B' | b'C' | b'E' | b'X' | b'A' | b'P' => {
+            simulate(case, line, a);
+            case
+        }
+        _ => cases::step(case, line, a),
+    }
+}
+
+// A case, and the line that is being read.
+struct Reading {
+    case: Case,
+    line: Line,
+}
+
+// A byte of the script more.
+fn byte_read(now: Reading, b: u8, a: &mut [u8]) -> Reading {
+    let case = now.case;
+    let line = now.line;
+    if b == b'\n' {
+        let next = line_done(case, line, a);
+        let none = script::empty();
+        return Reading {
+            case: next,
+            line: none,
+        };
+    }
+    let longer = shown::read(line, b);
+    Reading { case, line: longer }
+}
+
+fn run(s: &[u8], a: &mut [u8]) {
+    let case = cases::first_case();
+    let line = script::empty();
+    let mut now = Reading { case, line };
+    let mut i = 0;
+    while i < s.len() {
+        now = byte_read(now, s[i], a);
+        i += 1;
+    }
+}
+
+fn main() {
+    let mut script = io::large_buffer();
+    let n = io::read_full(0, &mut script);
+    let mut area = [0u8; 16384];
+    run(&script[..n], &mut area);
+}

@@ -1,0 +1,54 @@
+-- Safety alone: the loop counts up to its end. Assumes nothing.
+use Prim.Native.Nat.{_≤_, _-_}
+use borrow.Author.Needs.{needs}
+use Rattle.record_cases.proofs.areas.copies_equal.Statement.{statement}
+use Rattle.record_cases.proofs.areas.copies_equal.Tie as tie
+
+abbrev Inv-loop : tie.InvT-loop
+Inv-loop a n i₀ i = i ≤ n
+
+abbrev μ-loop : tie.MeasureT-loop
+μ-loop a n i₀ i = n - i
+
+word-requires : tie.Need-word-requires Inv-loop μ-loop
+word-requires c κs = search needs
+
+at-most-copy-requires : tie.Need-at-most-copy-requires Inv-loop μ-loop
+at-most-copy-requires c κs = search needs
+
+loop-holds : tie.Need-loop-holds Inv-loop μ-loop
+loop-holds c = search needs
+
+same-byte-requires : tie.Need-same-byte-requires Inv-loop μ-loop
+same-byte-requires c κs = search needs
+
+returns : tie.Need-returns Inv-loop μ-loop
+returns c = search needs
+
+add-i : tie.Need-add-i Inv-loop μ-loop
+add-i c = search needs
+
+loop-less : tie.Need-loop-less Inv-loop μ-loop
+loop-less c = search needs
+
+loop-again : tie.Need-loop-again Inv-loop μ-loop
+loop-again c = search needs
+
+returns-2 : tie.Need-returns-2 Inv-loop μ-loop
+returns-2 c = search needs
+
+pub copies-equal-spec : {M : Type 1} → statement M
+copies-equal-spec =
+    tie.close
+    (tie.spec
+    Inv-loop
+    μ-loop
+    word-requires
+    at-most-copy-requires
+    loop-holds
+    same-byte-requires
+    returns
+    add-i
+    loop-less
+    loop-again
+    returns-2)

@@ -1,0 +1,157 @@
+// What is printed of a call.
+use crate::areas::byte;
+use crate::areas::part_at;
+use crate::areas::word;
+use crate::script::Line;
+use crate::script::with_byte;
+use refusals::Refusal;
+use session::Answer;
+use session::Session;
+use session::Verdict;
+
+pub fn text(t: &[u8]) {
+    io::write_all(1, t);
+}
+
+pub fn number(n: u32) {
+    io::print_decimal(1, n as u64);
+}
+
+// A number behind a tab.
+pub fn column(n: u32) {
+    text(b"\t");
+    number(n);
+}
+
+fn staging(bank: u32, set: u32) {
+    text(b"Staging ");
+    number(bank);
+    text(b" ");
+    number(set);
+}
+
+// A session; Staging with its bank and its set.
+pub fn show_session(s: Session) {
+    match s {
+        Session::Regular => text(b"Regular"),
+        Session::Staging { bank, set } => staging(bank, set),
+        Session::Trial => text(b"Trial"),
+        Session::Fallback => text(b"Fallback"),
+        Session::Restart => text(b"Restart"),
+    }
+}
+
+fn missing(why: Refusal) {
+    match why {
+        Refusal::ImagesMissing(n) => column(n),
+        _ => {}
+    }
+}
+
+// A refusal: its number, and how many images are missing where it is 27.
+pub fn show_refusal(why: Refusal) {
+    text(b"refused ");
+    number(why.number());
+    missing(why);
+}
+
+// A session or a refusal.
+pub fn show_start(r: Answer) {
+    let v = r.verdict;
+    let s = r.session;
+    match v {
+        Verdict::Accepted => show_session(s),
+        Verdict::Refused(why) => show_refusal(why),
+    }
+}
+
+// The name of a call.
+pub fn show_name(letter: u8) {
+    match letter {
+        b'B' => text(b"Begin"),
+        b'C' => text(b"Commit"),
+        b'E' => text(b"End"),
+        b'X' => text(b"Cancel"),
+        b'A' => text(b"Accept"),
+        b'P' => text(b"Select previous"),
+        b'U' => text(b"start-up"),
+        b'F' => text(b"repair"),
+        _ => text(b"no call"),
+    }
+}
+
+// The state of bank b, behind a space.
+fn show_state(a: &[u8], banks: usize, b: usize) {
+    if 4 < banks {
+        return;
+    }
+    if banks <= b {
+        return;
+    }
+    text(b" ");
+    number(byte(a, 24 + b));
+}
+
+fn show_states(a: &[u8], banks: usize) {
+    show_state(a, banks, 0);
+    show_state(a, banks, 1);
+    show_state(a, banks, 2);
+    show_state(a, banks, 3);
+}
+
+// Whether image i is accepted in bank b.
+fn show_flag(a: &[u8], banks: usize, i: usize, b: usize) {
+    let at = part_at(banks, i, b);
+    if at < 40 {
+        return;
+    }
+    if 8192 < at {
+        return;
+    }
+    number(word(a, at + 16));
+}
+
+fn show_image(a: &[u8], banks: usize, i: usize) {
+    text(b" ");
+    show_flag(a, banks, i, 0);
+    show_flag(a, banks, i, 1);
+    show_flag(a, banks, i, 2);
+    show_flag(a, banks, i, 3);
+}
+
+fn show_images(a: &[u8], banks: usize, images: usize) {
+    let mut i = 0;
+    while i < images {
+        show_image(a, banks, i);
+        i += 1;
+    }
+}
+
+// The record in copy 0: active, previous, the bank states, and for each image whether it is accepted, a digit a bank.
+pub fn show_record(a: &[u8]) {
+    let banks = byte(a, 32) as usize;
+    let images = byte(a, 34) as usize;
+    text(b"\tactive ");
+    number(word(a, 8));
+    text(b" previous ");
+    number(word(a, 12));
+    text(b"\tbanks");
+    show_states(a, banks);
+    text(b"\taccepted");
+    show_images(a, banks, images);
+}
+
+fn echo(b: u8) {
+    let one = [b];
+    text(&one);
+}
+
+// A line with a byte more; that of a name, behind `>`, is printed as it comes.
+pub fn read(line: Line, b: u8) -> Line {
+    let letter = line.letter;
+    if letter == b'>' {
+        echo(b);
+        return line;
+    }
+    with_byte(line, b)
+}
