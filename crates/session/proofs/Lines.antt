@@ -15,11 +15,11 @@ use Rattle.stores.proofs.Laid.{withList-none}
 use Rattle.alterations.specs.Altered.{Listed}
 use Rattle.alterations.specs.ChangeStores.{copyStores, changeStores}
 use Rattle.changes.specs.NewRecord.{imageWith, committedRecord, endedRecord, acceptedRecord, exchangedRecord}
+use Rattle.admission.proofs.Bits.{one-shifted}
 use Rattle.session.specs.declared.Session.{Session}
 use Rattle.session.specs.declared.Session.the-variants.{Staging, Trial, Fallback, Restart}
 use Rattle.session.specs.Outcome.{refusedWith, acceptedWith}
 use Rattle.session.specs.Calls.{Result, held, refusedCall, changedTo, ofImage, joined, missing, afterAccept, selected, commitLine, endLine, acceptLine, selectPreviousLine}
-use Rattle.session.proofs.Bits.{one-shifted}
 
 -- a change whose stores were listed
 pub was-changed : (next : Session) (a new s e : List ℕ) (n : ℕ) → Listed n (changeStores a new) s e → (acceptedWith next n, e) ≡ changedTo next a new s
