@@ -215,11 +215,8 @@ impl Session {
         ensures { λ r. ⌜ (outcomeOf r, now (out .exit)) ≡ beginLine self (now (area .entry)) (now (out .entry)) ⌝ }
     {
         match self {
-            Session::Regular => begin_update(area, out),
-            Session::Staging { bank: _, set: _ } => begin_update(area, out),
-            Session::Trial => Answer::refused(self, Refusal::SessionState),
-            Session::Fallback => Answer::refused(self, Refusal::SessionState),
-            Session::Restart => Answer::refused(self, Refusal::SessionState),
+            Session::Regular | Session::Staging { bank: _, set: _ } => begin_update(area, out),
+            _ => Answer::refused(self, Refusal::SessionState),
         }
     }
 
@@ -241,11 +238,8 @@ impl Session {
         ensures { λ r. ⌜ (outcomeOf r, now (out .exit)) ≡ commitLine self (now (guid .entry)) request (now (area .entry)) (now (out .entry)) ⌝ }
     {
         match self {
-            Session::Regular => Answer::refused(self, Refusal::SessionState),
             Session::Staging { bank, set } => commit_image(bank, set, area, guid, request, out),
-            Session::Trial => Answer::refused(self, Refusal::SessionState),
-            Session::Fallback => Answer::refused(self, Refusal::SessionState),
-            Session::Restart => Answer::refused(self, Refusal::SessionState),
+            _ => Answer::refused(self, Refusal::SessionState),
         }
     }
 
@@ -266,11 +260,8 @@ impl Session {
         ensures { λ r. ⌜ (outcomeOf r, now (out .exit)) ≡ endLine self (now (area .entry)) (now (out .entry)) ⌝ }
     {
         match self {
-            Session::Regular => Answer::refused(self, Refusal::SessionState),
             Session::Staging { bank, set } => end_update(bank, set, area, out),
-            Session::Trial => Answer::refused(self, Refusal::SessionState),
-            Session::Fallback => Answer::refused(self, Refusal::SessionState),
-            Session::Restart => Answer::refused(self, Refusal::SessionState),
+            _ => Answer::refused(self, Refusal::SessionState),
         }
     }
 
@@ -291,11 +282,8 @@ impl Session {
         ensures { λ r. ⌜ (outcomeOf r, now (out .exit)) ≡ cancelLine self (now (area .entry)) (now (out .entry)) ⌝ }
     {
         match self {
-            Session::Regular => Answer::refused(self, Refusal::SessionState),
             Session::Staging { bank: _, set: _ } => Answer::accepted(Session::Regular, 0),
-            Session::Trial => Answer::refused(self, Refusal::SessionState),
-            Session::Fallback => Answer::refused(self, Refusal::SessionState),
-            Session::Restart => Answer::refused(self, Refusal::SessionState),
+            _ => Answer::refused(self, Refusal::SessionState),
         }
     }
 
@@ -316,11 +304,8 @@ impl Session {
         ensures { λ r. ⌜ (outcomeOf r, now (out .exit)) ≡ acceptLine self (now (guid .entry)) (now (area .entry)) (now (out .entry)) ⌝ }
     {
         match self {
-            Session::Regular => Answer::refused(self, Refusal::SessionState),
-            Session::Staging { bank: _, set: _ } => Answer::refused(self, Refusal::SessionState),
             Session::Trial => accept_image(area, guid, out),
-            Session::Fallback => Answer::refused(self, Refusal::SessionState),
-            Session::Restart => Answer::refused(self, Refusal::SessionState),
+            _ => Answer::refused(self, Refusal::SessionState),
         }
     }
 
@@ -341,11 +326,8 @@ impl Session {
         ensures { λ r. ⌜ (outcomeOf r, now (out .exit)) ≡ selectPreviousLine self (now (area .entry)) (now (out .entry)) ⌝ }
     {
         match self {
-            Session::Regular => Answer::refused(self, Refusal::SessionState),
-            Session::Staging { bank: _, set: _ } => Answer::refused(self, Refusal::SessionState),
-            Session::Trial => select_bank(self, area, out),
-            Session::Fallback => select_bank(self, area, out),
-            Session::Restart => Answer::refused(self, Refusal::SessionState),
+            Session::Trial | Session::Fallback => select_bank(self, area, out),
+            _ => Answer::refused(self, Refusal::SessionState),
         }
     }
 
