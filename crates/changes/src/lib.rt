@@ -87,7 +87,7 @@ fn states_with(r: &[u8], b: usize, s: u8) -> u32
 }
 
 // "the update bank is (active + 1) mod banks"
-fn update_bank(r: &[u8]) -> usize
+pub fn update_bank(r: &[u8]) -> usize
     requires { ⌜ sound (now r) ≡ true ⌝ }
     ensures { λ b. ⌜ (b ≡ updateBankOf (now (r .entry))) × (b < bankCount (now (r .entry))) ⌝ }
 {

@@ -15,11 +15,11 @@ use Rattle.stores.proofs.Laid.{withList-none}
 use Rattle.alterations.specs.Altered.{Listed}
 use Rattle.alterations.specs.ChangeStores.{copyStores, changeStores}
 use Rattle.changes.specs.NewRecord.{imageWith, committedRecord, endedRecord, acceptedRecord, exchangedRecord}
+use Rattle.admission.proofs.Bits.{one-shifted}
 use Rattle.session.specs.declared.Session.{Session}
-use Rattle.session.specs.declared.Session.the-variants.{Staging, Trial, Fallback, Restart}
+use Rattle.session.specs.declared.Session.the-variants.{Staging, Trial, Restart}
 use Rattle.session.specs.Outcome.{refusedWith, acceptedWith}
-use Rattle.session.specs.Calls.{Result, held, refusedCall, changedTo, ofImage, joined, missing, afterAccept, selected, commitLine, endLine, acceptLine, selectPreviousLine}
-use Rattle.session.proofs.Bits.{one-shifted}
+use Rattle.session.specs.Calls.{Result, held, refusedCall, changedTo, ofImage, joined, missing, afterAccept, selected, commitLine, endLine, acceptLine}
 
 -- a change whose stores were listed
 pub was-changed : (next : Session) (a new s e : List ℕ) (n : ℕ) → Listed n (changeStores a new) s e → (acceptedWith next n, e) ≡ changedTo next a new s
@@ -97,12 +97,3 @@ pub was-selected : (q : Session) (n : ℕ) (a s e : List ℕ) → state (held a)
 unfolding selected
 was-selected q n a s e h p =
     rw (eq-eqb (state (held a) (previous (held a))) 252 h) (was-changed Restart a (exchangedRecord (held a)) s e n p)
-
--- it is one line in Trial and in Fallback
-pub selects-in-trial : (q : Session) (a s : List ℕ) → q ≡ Trial → selected q a s ≡ selectPreviousLine q a s
-unfolding selectPreviousLine
-selects-in-trial q a s e = rw e
-
-pub selects-in-fallback : (q : Session) (a s : List ℕ) → q ≡ Fallback → selected q a s ≡ selectPreviousLine q a s
-unfolding selectPreviousLine
-selects-in-fallback q a s e = rw e

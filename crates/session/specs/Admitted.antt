@@ -4,8 +4,7 @@ use Prim.Native.Nat.{ℕ}
 use mathlib.Core.Bool.{true, cond, not}
 use mathlib.Core.List.{List}
 use mathlib.Core.Path.{_≡_}
-use Rattle.refusals.specs.declared.Refusal.the-variants.{CopiesDiffer, StagingFault}
-use Rattle.copies.specs.Copies.{soundAndEqual}
+use Rattle.refusals.specs.declared.Refusal.the-variants.{StagingFault}
 use Rattle.alterations.specs.Altered.{Changeable}
 use Rattle.session.specs.declared.Session.{Session}
 use Rattle.session.specs.Outcome.{Decision, accepted, refused}
@@ -16,6 +15,6 @@ pub record Admitted (q : Session) (a s : List ℕ) : Type 0 where
   pub change : Changeable a s
   pub staging : stagingFits q (held a) ≡ true
 
--- 22 and 24: what is left of `admission` where copy 0 is sound
-unfoldable pub equalAdmission : Session → (a : List ℕ) → Decision
-equalAdmission q a = cond (not (soundAndEqual a)) (refused CopiesDiffer) (cond (not (stagingFits q (held a))) (refused StagingFault) accepted)
+-- 24: what is left of `admission` where area, slice and copies are right
+unfoldable pub stagingAdmission : Session → (a : List ℕ) → Decision
+stagingAdmission q a = cond (not (stagingFits q (held a))) (refused StagingFault) accepted

@@ -1,11 +1,9 @@
 -- What each of the six calls answers and lists (document 01, "Session and calls" and "When the bench says no"). q is the session given, a the
 -- bytes of the area, s the numbers of the store slice, g the bytes of a type GUID. A call's result is its answer and the store slice at exit.
 -- Assumes nothing.
-use Prim.Native.Nat.{ℕ, _-_, _^_}
+use Prim.Native.Nat.{ℕ, _^_}
 use mathlib.Core.Bool.{Bool, true, cond, not, _&&_, _||_}
 use mathlib.Core.List.{List}
-use lib.Bits.{bitOr}
-use lib.Count.{onesIn}
 use lib.Dec.{eqb, leb, ltb}
 use lib.ListN.{length}
 use Rattle.refusals.specs.declared.Refusal.{Refusal}
@@ -16,6 +14,7 @@ use Rattle.copies.specs.Copies.{soundAndEqual}
 use Rattle.stores.specs.Stores.{storeNumbers, withList}
 use Rattle.changes.specs.NewRecord.{updateBankOf, imageWith, marked, begunRecord, committedRecord, endedRecord, acceptedRecord, exchangedRecord}
 use Rattle.alterations.specs.ChangeStores.{changeStores}
+unfoldable pub use Rattle.admission.specs.Set.{joined, missing}
 use Rattle.session.specs.declared.Session.{Session}
 use Rattle.session.specs.declared.Session.the-variants.{Regular, Staging, Trial, Fallback, Restart}
 use Rattle.session.specs.Outcome.{Decision, accepted, refusal, refused, Outcome, refusedWith, acceptedWith}
@@ -81,11 +80,7 @@ beginCall q a s = called q a s (beginLine q a s)
 unfoldable pub ofImage : Session → (g a s : List ℕ) → (own : ℕ → Result) → Result
 ofImage q g a s own = cond (ltb (imageWith g (held a)) (imageCount (held a))) (own (imageWith g (held a))) (refusedCall q NoImage s)
 
--- "it joins the set": bit i
-unfoldable pub joined : (i set : ℕ) → ℕ
-joined i set = bitOr set (2 ^ i)
-
--- "Commit (Staging), by type GUID and a request"
+-- "Commit (Staging), by type GUID and a request"; "it joins the set": `joined`
 unfoldable pub commitLine : Session → (g : List ℕ) (request : ℕ) (a s : List ℕ) → Result
 commitLine (Staging bank set) g request a s =
     ofImage (Staging bank set) g a s (λ i. changedTo (Staging bank (joined i set)) a (committedRecord i request (held a)) s)
@@ -97,15 +92,7 @@ commitLine Restart g request a s = refusedCall Restart SessionState s
 unfoldable pub commitCall : Session → (g : List ℕ) (request : ℕ) (a s : List ℕ) → Result
 commitCall q g request a s = called q a s (commitLine q g request a s)
 
--- "a 32-bit set of committed images"
-abbrev pub setBits : ℕ
-setBits = 32
-
--- "a refusal tells how many are missing": the image count less the set's count of ones
-unfoldable pub missing : (set : ℕ) (r : List ℕ) → ℕ
-missing set r = imageCount r - onesIn setBits set
-
--- "End (Staging): every image must be in the set; .. Restart."; 27: "images missing". The count is 0 exactly if every image is in the set, since
+-- "End (Staging): every image must be in the set; a refusal tells how many are missing. .. Restart."; 27: "images missing". The count `missing` is 0 exactly if every image is in the set, since
 -- 24 has shut out bits at or past the image count
 unfoldable pub endLine : Session → (a s : List ℕ) → Result
 endLine (Staging bank set) a s =

@@ -1,37 +1,36 @@
 // The session, the answer of start-up, repair and the calls, and the six calls (document 01, "Session and calls"). Each call tests in the
 // order of "When the bench says no", 20, 23, 21, 22, 24 and then its own line's 25, 26 and 27; a refusal hands the session back as it
 // was, with no list.
+use admission::Gate;
+use admission::admit_area;
+use admission::image_of;
+use admission::missing_images;
+use admission::staged;
 use changes::all_accepted_with;
-use changes::find_image;
 use changes::list_accept;
 use changes::list_begin;
 use changes::list_commit;
 use changes::list_end;
 use changes::list_exchange;
-use copies::AREA;
+use changes::update_bank;
 use copies::COPY;
-use copies::Source;
-use copies::read_source;
-use copies::second_agrees;
 use fields::read16;
 use fields::read32;
 use record::record_in;
 use refusals::Refusal;
-use stores::STORE_NUMBERS;
 ghost use mathlib.Core.Path.{_≡_};
 ghost use mathlib.Core.Bool.{true};
-ghost use Prim.Native.Nat.{_<_, _^_};
+ghost use Prim.Native.Nat.{_<_};
 ghost use lib.ListN.{length};
 ghost use Rattle.record.specs.Layout.{imageCount};
 ghost use Rattle.record.specs.Rules.{sound};
-ghost use Rattle.copies.specs.Copies.{sourceOf};
-ghost use Rattle.copies.specs.declared.Source.the-variants.{Copy0};
+ghost use Rattle.copies.specs.Copies.{soundAndEqual};
 ghost use Rattle.alterations.specs.Altered.{Changeable};
-ghost use Rattle.changes.specs.NewRecord.{updateBankOf, imageWith, begunRecord};
+ghost use Rattle.changes.specs.NewRecord.{updateBankOf, begunRecord};
 ghost use Rattle.session.specs.declared.Session.the-variants.{Staging, Trial};
 ghost use Rattle.session.specs.Outcome.{decisionOf, outcomeOf, refusedWith, acceptedWith};
-ghost use Rattle.session.specs.Calls.{held, changedTo, stagingFits, admission, missing, afterAccept, selected, beginLine, commitLine, endLine, cancelLine, acceptLine, selectPreviousLine, beginCall, commitCall, endCall, cancelCall, acceptCall, selectPreviousCall};
-ghost use Rattle.session.specs.Admitted.{Admitted, equalAdmission};
+ghost use Rattle.session.specs.Calls.{held, changedTo, stagingFits, admission, afterAccept, selected, beginLine, commitLine, endLine, cancelLine, acceptLine, selectPreviousLine, beginCall, commitCall, endCall, cancelCall, acceptCall, selectPreviousCall};
+ghost use Rattle.session.specs.Admitted.{Admitted, stagingAdmission};
 
 // "Five session states: Regular, Staging, Trial, Fallback, Restart. Staging carries its bank and a 32-bit set of committed
 // images."
@@ -80,31 +79,6 @@ impl Answer {
     }
 }
 
-// "the update bank is (active + 1) mod banks"
-fn update_bank(r: &[u8]) -> u32
-    requires { ⌜ sound (now r) ≡ true ⌝ }
-    ensures { λ b. ⌜ b ≡ updateBankOf (now (r .entry)) ⌝ }
-{
-    let banks = r[32] as u32;
-    (read32(r, 8) + 1) % banks
-}
-
-// 24, of a Staging session. The bank is looked up only where it is the update bank: a session may name any number.
-fn staged(r: &[u8], bank: u32, set: u32) -> bool
-    requires { ⌜ sound (now r) ≡ true ⌝ }
-    ensures { λ b. ⌜ b ≡ stagingFits (Staging bank set) (now (r .entry)) ⌝ }
-{
-    if bank != update_bank(r) {
-        return false;
-    }
-    let at = 24 + bank as usize;
-    if r[at] != 255 {
-        return false;
-    }
-    let images = read16(r, 34) as u32;
-    (set as u64) < (1u64 << images)
-}
-
 // 24, of any session.
 fn staging_fits(session: Session, r: &[u8]) -> bool
     requires { ⌜ sound (now r) ≡ true ⌝ }
@@ -119,14 +93,11 @@ fn staging_fits(session: Session, r: &[u8]) -> bool
     }
 }
 
-// 22 and 24, where copy 0 is sound.
-fn admit_first(session: Session, area: &[u8]) -> Verdict
-    requires { ⌜ (length (now area) ≡ 16384) × (sourceOf (now area) ≡ Copy0) ⌝ }
-    ensures { λ v. ⌜ decisionOf v ≡ equalAdmission session (now (area .entry)) ⌝ }
+// 24, where the copies are sound and equal.
+fn admit_staging(session: Session, area: &[u8]) -> Verdict
+    requires { ⌜ (length (now area) ≡ 16384) × (soundAndEqual (now area) ≡ true) ⌝ }
+    ensures { λ v. ⌜ decisionOf v ≡ stagingAdmission session (now (area .entry)) ⌝ }
 {
-    if !second_agrees(area) {
-        return Verdict::Refused(Refusal::CopiesDiffer);
-    }
     if !staging_fits(session, record_in(&area[0..COPY])) {
         return Verdict::Refused(Refusal::StagingFault);
     }
@@ -137,17 +108,10 @@ fn admit_first(session: Session, area: &[u8]) -> Verdict
 fn admit(session: Session, area: &[u8], numbers: usize) -> Verdict
     ensures { λ v. ⌜ decisionOf v ≡ admission session (now (area .entry)) numbers ⌝ }
 {
-    if area.len() != AREA {
-        return Verdict::Refused(Refusal::AreaLength);
-    }
-    if numbers < STORE_NUMBERS {
-        return Verdict::Refused(Refusal::StoreSlice);
-    }
-    let from = read_source(area);
-    match from {
-        Source::Copy0 => admit_first(session, area),
-        Source::Copy1 => Verdict::Refused(Refusal::CopiesDiffer),
-        Source::Neither => Verdict::Refused(Refusal::NoSoundCopy),
+    let gate = admit_area(area, numbers);
+    match gate {
+        Gate::Shut(why) => Verdict::Refused(why),
+        Gate::Open => admit_staging(session, area),
     }
 }
 
@@ -156,19 +120,9 @@ fn begin_update(area: &[u8], out: &mut [u32]) -> Answer
     requires { ⌜ Changeable (now area) (now out) ⌝ }
     ensures { λ r. ⌜ (outcomeOf r, now (out .exit)) ≡ changedTo (Staging (updateBankOf (held (now (area .entry)))) 0) (now (area .entry)) (begunRecord (held (now (area .entry)))) (now (out .entry)) ⌝ }
 {
-    let bank = update_bank(record_in(&area[0..COPY]));
+    let bank = update_bank(record_in(&area[0..COPY])) as u32;
     let n = list_begin(area, out);
     Answer::accepted(Session::Staging { bank, set: 0 }, n)
-}
-
-// The image with that type GUID, or the image count.
-fn image_of(r: &[u8], guid: &[u8]) -> usize
-    requires { ⌜ (sound (now r) ≡ true) × (length (now guid) ≡ 16) ⌝ }
-    ensures { λ i. ⌜ i ≡ imageWith (now (guid .entry)) (now (r .entry)) ⌝ }
-{
-    let banks = r[32] as usize;
-    let images = read16(r, 34) as usize;
-    find_image(r, banks, images, guid)
 }
 
 // Commit's stores, or 26; "it joins the set".
@@ -192,15 +146,6 @@ fn commit_image(
     let joined = set | (1u32 << (i as u32));
     let n = list_commit(area, i, request, out);
     Answer::accepted(Session::Staging { bank, set: joined }, n)
-}
-
-// How many images are not in the set: "image count minus the committed set's count of ones".
-fn missing_images(r: &[u8], set: u32) -> u32
-    requires { ⌜ (sound (now r) ≡ true) × (set < 2 ^ imageCount (now r)) ⌝ }
-    ensures { λ n. ⌜ n ≡ missing set (now (r .entry)) ⌝ }
-{
-    let images = read16(r, 34) as u32;
-    images - u32::count_ones(set)
 }
 
 // End's stores, or 27.
@@ -270,11 +215,8 @@ impl Session {
         ensures { λ r. ⌜ (outcomeOf r, now (out .exit)) ≡ beginLine self (now (area .entry)) (now (out .entry)) ⌝ }
     {
         match self {
-            Session::Regular => begin_update(area, out),
-            Session::Staging { bank: _, set: _ } => begin_update(area, out),
-            Session::Trial => Answer::refused(self, Refusal::SessionState),
-            Session::Fallback => Answer::refused(self, Refusal::SessionState),
-            Session::Restart => Answer::refused(self, Refusal::SessionState),
+            Session::Regular | Session::Staging { bank: _, set: _ } => begin_update(area, out),
+            _ => Answer::refused(self, Refusal::SessionState),
         }
     }
 
@@ -296,11 +238,8 @@ impl Session {
         ensures { λ r. ⌜ (outcomeOf r, now (out .exit)) ≡ commitLine self (now (guid .entry)) request (now (area .entry)) (now (out .entry)) ⌝ }
     {
         match self {
-            Session::Regular => Answer::refused(self, Refusal::SessionState),
             Session::Staging { bank, set } => commit_image(bank, set, area, guid, request, out),
-            Session::Trial => Answer::refused(self, Refusal::SessionState),
-            Session::Fallback => Answer::refused(self, Refusal::SessionState),
-            Session::Restart => Answer::refused(self, Refusal::SessionState),
+            _ => Answer::refused(self, Refusal::SessionState),
         }
     }
 
@@ -321,11 +260,8 @@ impl Session {
         ensures { λ r. ⌜ (outcomeOf r, now (out .exit)) ≡ endLine self (now (area .entry)) (now (out .entry)) ⌝ }
     {
         match self {
-            Session::Regular => Answer::refused(self, Refusal::SessionState),
             Session::Staging { bank, set } => end_update(bank, set, area, out),
-            Session::Trial => Answer::refused(self, Refusal::SessionState),
-            Session::Fallback => Answer::refused(self, Refusal::SessionState),
-            Session::Restart => Answer::refused(self, Refusal::SessionState),
+            _ => Answer::refused(self, Refusal::SessionState),
         }
     }
 
@@ -346,11 +282,8 @@ impl Session {
         ensures { λ r. ⌜ (outcomeOf r, now (out .exit)) ≡ cancelLine self (now (area .entry)) (now (out .entry)) ⌝ }
     {
         match self {
-            Session::Regular => Answer::refused(self, Refusal::SessionState),
             Session::Staging { bank: _, set: _ } => Answer::accepted(Session::Regular, 0),
-            Session::Trial => Answer::refused(self, Refusal::SessionState),
-            Session::Fallback => Answer::refused(self, Refusal::SessionState),
-            Session::Restart => Answer::refused(self, Refusal::SessionState),
+            _ => Answer::refused(self, Refusal::SessionState),
         }
     }
 
@@ -371,11 +304,8 @@ impl Session {
         ensures { λ r. ⌜ (outcomeOf r, now (out .exit)) ≡ acceptLine self (now (guid .entry)) (now (area .entry)) (now (out .entry)) ⌝ }
     {
         match self {
-            Session::Regular => Answer::refused(self, Refusal::SessionState),
-            Session::Staging { bank: _, set: _ } => Answer::refused(self, Refusal::SessionState),
             Session::Trial => accept_image(area, guid, out),
-            Session::Fallback => Answer::refused(self, Refusal::SessionState),
-            Session::Restart => Answer::refused(self, Refusal::SessionState),
+            _ => Answer::refused(self, Refusal::SessionState),
         }
     }
 
@@ -396,11 +326,8 @@ impl Session {
         ensures { λ r. ⌜ (outcomeOf r, now (out .exit)) ≡ selectPreviousLine self (now (area .entry)) (now (out .entry)) ⌝ }
     {
         match self {
-            Session::Regular => Answer::refused(self, Refusal::SessionState),
-            Session::Staging { bank: _, set: _ } => Answer::refused(self, Refusal::SessionState),
-            Session::Trial => select_bank(self, area, out),
-            Session::Fallback => select_bank(self, area, out),
-            Session::Restart => Answer::refused(self, Refusal::SessionState),
+            Session::Trial | Session::Fallback => select_bank(self, area, out),
+            _ => Answer::refused(self, Refusal::SessionState),
         }
     }
 

@@ -6,7 +6,8 @@ use Rattle.record.specs.Rules.{sound}
 use Rattle.record.specs.Layout.{imageCount}
 use Rattle.changes.specs.NewRecord.{imageWith}
 use Rattle.session.specs.Calls.{held, afterAccept}
-use Rattle.session.proofs.Admission.{known, held-sound}
+use Rattle.admission.proofs.Known.{known}
+use Rattle.session.proofs.Admission.{held-sound}
 use Rattle.session.proofs.Lines.{not-accepted, accepted-one}
 use borrow.Author.Needs.{needs}
 use Rattle.session.proofs.accept_image.Statement.{statement}

@@ -1,69 +1,41 @@
 -- `admit` meets its contract. Assumes nothing.
-use borrow.Author.Tests.{eq-eqb, ne-eqb, lt-ltb}
 use mathlib.Core.Path.{sym, _∙_}
-use Rattle.session.specs.Calls.{admission}
-use Rattle.session.proofs.Admission.{admission-copy0, admission-copy1, admission-neither}
+use Rattle.admission.proofs.Gates.{gate-open}
+use Rattle.session.proofs.Admission.{shut-refuses, open-leaves}
 use borrow.Author.Needs.{needs}
 use Rattle.session.proofs.admit.Statement.{statement}
 use Rattle.session.proofs.admit.Tie as tie
 
-returns : tie.Need-returns
-unfolding admission
-returns c = rw (ne-eqb _ _ (c .if1 .taken))
+admit-area-requires : tie.Need-admit-area-requires
+admit-area-requires c κs = search needs
 
-returns-2 : tie.Need-returns-2
-unfolding admission
-returns-2 c = rw (eq-eqb _ _ (c .before .if1 .left), lt-ltb _ _ (c .if2 .taken))
-
-read-source-requires : tie.Need-read-source-requires
-read-source-requires c κs = search needs
+enum-known-gate : tie.Need-enum-known-gate
+enum-known-gate c = search needs
 
 enum-told : tie.Need-enum-told
 enum-told c = search needs
 
-admit-first-requires : tie.Need-admit-first-requires
-admit-first-requires c κs = let m = c .before .before in (m .before .before .if1 .left, sym (m .read-source .ensures) ∙ c .enum-told .given .1)
+admit-staging-requires : tie.Need-admit-staging-requires
+admit-staging-requires c κs =
+    let g = c .before .before in
+    let s = c .before .before .before .before in
+    let o = gate-open (s .args .area .now) (s .args .numbers) (sym (g .admit-area .ensures) ∙ c .enum-told .given .1) in
+    (o .0, o .1)
 
-enum-told-2 : tie.Need-enum-told-2
-enum-told-2 c = search needs
-
-enum-told-3 : tie.Need-enum-told-3
-enum-told-3 c = search needs
-
-returns-3 : tie.Need-returns-3
-returns-3 c =
+returns : tie.Need-returns
+returns c =
     let t = c .before in
-    let m = c .before .before .before in
-    let s = c .before .before .before .before .before .before .before in
-    c .admit-first .ensures
-    ∙ admission-copy0 (s .args .session) (s .args .area .now) (s .args .numbers) (m .before .before .if1 .left) (m .before .if2 .left)
-    (sym (m .read-source .ensures) ∙ t .enum-told .given .1)
+    let g = c .before .before .before in
+    let s = c .before .before .before .before .before in
+    shut-refuses (s .args .session) (s .args .area .now) (s .args .numbers) (t .gate .given .0 .0) (sym (t .gate .given .1) ∙ g .admit-area .ensures)
 
-returns-4 : tie.Need-returns-4
-returns-4 c =
-    let m = c .before .before in
-    let s = c .before .before .before .before .before .before in
-    admission-copy1 (s .args .session) (s .args .area .now) (s .args .numbers) (m .before .before .if1 .left) (m .before .if2 .left)
-    (sym (m .read-source .ensures) ∙ c .enum-told2 .given .1)
-
-returns-5 : tie.Need-returns-5
-returns-5 c =
-    let m = c .before .before in
-    let s = c .before .before .before .before .before .before in
-    admission-neither (s .args .session) (s .args .area .now) (s .args .numbers) (m .before .before .if1 .left) (m .before .if2 .left)
-    (sym (m .read-source .ensures) ∙ c .enum-told3 .given .1)
+returns-2 : tie.Need-returns-2
+returns-2 c =
+    let t = c .before in
+    let g = c .before .before .before in
+    let s = c .before .before .before .before .before in
+    c .admit-staging .ensures
+    ∙ open-leaves (s .args .session) (s .args .area .now) (s .args .numbers) (sym (t .enum-told .given .1) ∙ g .admit-area .ensures)
 
 pub admit-spec : {M : Type 1} → statement M
-admit-spec =
-    tie.close
-    (tie.spec
-    returns
-    returns-2
-    read-source-requires
-    enum-told
-    admit-first-requires
-    enum-told-2
-    enum-told-3
-    returns-3
-    returns-4
-    returns-5)
+admit-spec = tie.close (tie.spec admit-area-requires enum-known-gate enum-told admit-staging-requires returns returns-2)

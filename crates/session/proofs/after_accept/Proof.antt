@@ -11,7 +11,7 @@ use Rattle.changes.specs.NewRecord.{marked}
 use Rattle.changes.proofs.Making.{marked-is}
 use Rattle.record.proofs.Sound.{sound-sized, sound-named}
 use Rattle.session.specs.Calls.{afterAccept}
-use Rattle.session.proofs.Admission.{known}
+use Rattle.admission.proofs.Known.{known}
 use borrow.Author.Needs.{needs}
 use Rattle.session.proofs.after_accept.Statement.{statement}
 use Rattle.session.proofs.after_accept.Tie as tie

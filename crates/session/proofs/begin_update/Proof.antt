@@ -1,8 +1,10 @@
 -- `begin_update` meets its contract. Assumes nothing.
 use mathlib.Core.Bool.{true}
 use mathlib.Core.Path.{_≡_}
+use native.Mathlib.Omega.{arith}
 use Rattle.record.specs.Rules.{sound}
 use Rattle.changes.specs.NewRecord.{updateBankOf, begunRecord}
+use Rattle.admission.proofs.Known.{known}
 use Rattle.session.specs.declared.Session.the-variants.{Staging}
 use Rattle.session.specs.Calls.{held}
 use Rattle.session.proofs.Admission.{held-sound}
@@ -32,6 +34,9 @@ record-in-requires c κs = search needs
 update-bank-requires : tie.Need-update-bank-requires
 update-bank-requires c κs = here c
 
+cast-bank : tie.Need-cast-bank
+cast-bank c = omega (arith, c .update-bank .ensures .1, known (c .before .record-in .result .now) (here (c .before)) .banks-high)
+
 list-begin-requires : tie.Need-list-begin-requires
 list-begin-requires c κs = search needs
 
@@ -47,7 +52,7 @@ returns c =
     let b = c .before .before .before .before .before in
     let s = c .before .before .before .before .before .before .before .before .before .before in
     let a = s .args .area .now in
-    let bank : b .update-bank .result ≡ updateBankOf (held a) = rw (← b .before .record-in .ensures) (b .update-bank .ensures) in
+    let bank : b .update-bank .result ≡ updateBankOf (held a) = rw (← b .before .record-in .ensures) (b .update-bank .ensures .0) in
     rw (c .accepted .ensures, bank)
     (was-changed (Staging (updateBankOf (held a)) 0) a (begunRecord (held a)) (s .args .out .now) _ _ (n .list-begin .ensures))
 
@@ -60,6 +65,7 @@ begin-update-spec =
     part-record-in-end
     record-in-requires
     update-bank-requires
+    cast-bank
     list-begin-requires
     accepted-requires
     same-length

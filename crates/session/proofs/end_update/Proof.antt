@@ -1,7 +1,7 @@
 -- `end_update` meets its contract. Assumes nothing.
 use mathlib.Core.Path.{_≡_}
 use Rattle.session.specs.Calls.{held, missing}
-use Rattle.session.proofs.Admission.{held-sound, set-below}
+use Rattle.session.proofs.Admission.{held-sound, staged-below}
 use Rattle.session.proofs.Lines.{not-ended, ended}
 use borrow.Author.Needs.{needs}
 use Rattle.session.proofs.end_update.Statement.{statement}
@@ -29,7 +29,7 @@ missing-images-requires c κs =
     let s = c .before .before .before .before in
     let a = s .args .area .now in
     rw (c .record-in .ensures)
-    (held-sound a (s .args .out .now) (s .pre .change), set-below (s .args .bank) (s .args .set) (held a) (s .pre .staging))
+    (held-sound a (s .args .out .now) (s .pre .change), staged-below (s .args .bank) (s .args .set) (held a) (s .pre .staging))
 
 refused-requires : tie.Need-refused-requires
 refused-requires c κs = search needs

@@ -5,7 +5,8 @@ use native.Mathlib.Omega.{arith}
 use Rattle.record.specs.Rules.{sound}
 use Rattle.record.specs.Layout.{previous, state}
 use Rattle.session.specs.Calls.{held}
-use Rattle.session.proofs.Admission.{known, held-sound}
+use Rattle.admission.proofs.Known.{known}
+use Rattle.session.proofs.Admission.{held-sound}
 use Rattle.session.proofs.Lines.{not-selected, was-selected}
 use borrow.Author.Needs.{needs}
 use Rattle.session.proofs.select_bank.Statement.{statement}

@@ -1,5 +1,7 @@
 -- `staging_fits` meets its contract. Assumes nothing.
+use mathlib.Core.Path.{_∙_}
 use Rattle.session.specs.Calls.{stagingFits}
+use Rattle.session.proofs.Admission.{staged-fits}
 use borrow.Author.Needs.{needs}
 use Rattle.session.proofs.staging_fits.Statement.{statement}
 use Rattle.session.proofs.staging_fits.Tie as tie
@@ -23,7 +25,10 @@ enum-told-4 : tie.Need-enum-told-4
 enum-told-4 c = search needs
 
 returns : tie.Need-returns
-returns c = rw (c .before .before .session .given .1) (c .staged .ensures)
+returns c =
+    let v = c .before .before .session .given in
+    let s = c .before .before .before .before .before in
+    rw (v .1) (c .staged .ensures ∙ staged-fits (v .0 .0) (v .0 .1 .0) (s .args .r .now))
 
 returns-2 : tie.Need-returns-2
 unfolding stagingFits

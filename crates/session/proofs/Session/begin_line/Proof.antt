@@ -1,83 +1,36 @@
 -- `begin_line` meets its contract. Assumes nothing.
-use Rattle.session.specs.Calls.{refusedCall, beginLine}
+use mathlib.Core.Path.{_∙_}
+use Rattle.session.proofs.Named.{begins, not-begun}
 use borrow.Author.Needs.{needs}
 use Rattle.session.proofs.Session.begin_line.Statement.{statement}
 use Rattle.session.proofs.Session.begin_line.Tie as tie
 
-enum-told : tie.Need-enum-told
-enum-told c = search needs
-
 begin-update-requires : tie.Need-begin-update-requires
 begin-update-requires c κs = search needs
 
-enum-told-2 : tie.Need-enum-told-2
-enum-told-2 c = search needs
-
-begin-update-requires-2 : tie.Need-begin-update-requires-2
-begin-update-requires-2 c κs = search needs
-
-enum-told-3 : tie.Need-enum-told-3
-enum-told-3 c = search needs
-
 refused-requires : tie.Need-refused-requires
 refused-requires c κs = search needs
-
-enum-told-4 : tie.Need-enum-told-4
-enum-told-4 c = search needs
-
-refused-requires-2 : tie.Need-refused-requires-2
-refused-requires-2 c κs = search needs
-
-enum-told-5 : tie.Need-enum-told-5
-enum-told-5 c = search needs
-
-refused-requires-3 : tie.Need-refused-requires-3
-refused-requires-3 c κs = search needs
 
 same-length : tie.Need-same-length
 same-length c = search needs
 
 returns : tie.Need-returns
-unfolding beginLine
-returns c = rw (c .before .before .before .before .enum-told .given .1) (c .before .before .begin-update .ensures)
-
-same-length-2 : tie.Need-same-length-2
-same-length-2 c = search needs
+returns c =
+    let m = c .before .before .before .before in
+    let s = m .before .before .before in
+    c .before .before .begin-update .ensures ∙ begins (s .args .self) (s .args .area .now) (s .args .out .now) (m .match .keys1)
 
 returns-2 : tie.Need-returns-2
-unfolding beginLine
-returns-2 c = rw (c .before .before .before .before .enum-told2 .given .1) (c .before .before .begin-update2 .ensures)
-
-returns-3 : tie.Need-returns-3
-unfolding beginLine refusedCall
-returns-3 c = rw (c .refused .ensures, c .before .enum-told3 .given .1)
-
-returns-4 : tie.Need-returns-4
-unfolding beginLine refusedCall
-returns-4 c = rw (c .refused2 .ensures, c .before .enum-told4 .given .1)
-
-returns-5 : tie.Need-returns-5
-unfolding beginLine refusedCall
-returns-5 c = rw (c .refused3 .ensures, c .before .enum-told5 .given .1)
+returns-2 c =
+    let s = c .before .before .before .before in
+    rw (c .refused .ensures) (not-begun (s .args .self) (s .args .area .now) (s .args .out .now) (c .before .match .keys2))
 
 pub begin-line-spec : {M : Type 1} → statement M
 begin-line-spec =
     tie.close
     (tie.spec
-    enum-told
     begin-update-requires
-    enum-told-2
-    begin-update-requires-2
-    enum-told-3
     refused-requires
-    enum-told-4
-    refused-requires-2
-    enum-told-5
-    refused-requires-3
     same-length
     returns
-    same-length-2
-    returns-2
-    returns-3
-    returns-4
-    returns-5)
+    returns-2)

@@ -1,14 +1,8 @@
 -- `commit_line` meets its contract. Assumes nothing.
-use Rattle.session.specs.Calls.{refusedCall, commitLine}
+use Rattle.session.proofs.Named.{no-commit}
 use borrow.Author.Needs.{needs}
 use Rattle.session.proofs.Session.commit_line.Statement.{statement}
 use Rattle.session.proofs.Session.commit_line.Tie as tie
-
-enum-told : tie.Need-enum-told
-enum-told c = search needs
-
-refused-requires : tie.Need-refused-requires
-refused-requires c κs = search needs
 
 enum-known-self : tie.Need-enum-known-self
 enum-known-self c = search needs
@@ -16,64 +10,27 @@ enum-known-self c = search needs
 commit-image-requires : tie.Need-commit-image-requires
 commit-image-requires c κs = search needs
 
-enum-told-2 : tie.Need-enum-told-2
-enum-told-2 c = search needs
-
-refused-requires-2 : tie.Need-refused-requires-2
-refused-requires-2 c κs = search needs
-
-enum-told-3 : tie.Need-enum-told-3
-enum-told-3 c = search needs
-
-refused-requires-3 : tie.Need-refused-requires-3
-refused-requires-3 c κs = search needs
-
-enum-told-4 : tie.Need-enum-told-4
-enum-told-4 c = search needs
-
-refused-requires-4 : tie.Need-refused-requires-4
-refused-requires-4 c κs = search needs
-
-returns : tie.Need-returns
-unfolding commitLine refusedCall
-returns c = rw (c .refused .ensures, c .before .enum-told .given .1)
+refused-requires : tie.Need-refused-requires
+refused-requires c κs = search needs
 
 same-length : tie.Need-same-length
 same-length c = search needs
 
+returns : tie.Need-returns
+returns c = rw (c .before .before .before .before .before .self .given .1) (c .before .before .commit-image .ensures)
+
 returns-2 : tie.Need-returns-2
-unfolding commitLine
-returns-2 c = rw (c .before .before .before .before .before .self .given .1) (c .before .before .commit-image .ensures)
-
-returns-3 : tie.Need-returns-3
-unfolding commitLine refusedCall
-returns-3 c = rw (c .refused2 .ensures, c .before .enum-told2 .given .1)
-
-returns-4 : tie.Need-returns-4
-unfolding commitLine refusedCall
-returns-4 c = rw (c .refused3 .ensures, c .before .enum-told3 .given .1)
-
-returns-5 : tie.Need-returns-5
-unfolding commitLine refusedCall
-returns-5 c = rw (c .refused4 .ensures, c .before .enum-told4 .given .1)
+returns-2 c =
+    let s = c .before .before .before .before .before in
+    rw (c .refused .ensures) (no-commit (s .args .self) (s .args .guid .now) (s .args .request) (s .args .area .now) (s .args .out .now) (c .before .match .keys2))
 
 pub commit-line-spec : {M : Type 1} → statement M
 commit-line-spec =
     tie.close
     (tie.spec
-    enum-told
-    refused-requires
     enum-known-self
     commit-image-requires
-    enum-told-2
-    refused-requires-2
-    enum-told-3
-    refused-requires-3
-    enum-told-4
-    refused-requires-4
-    returns
+    refused-requires
     same-length
-    returns-2
-    returns-3
-    returns-4
-    returns-5)
+    returns
+    returns-2)

@@ -2,18 +2,19 @@
 use borrow.Author.Tests.{eq-eqb, ne-eqb}
 use mathlib.Core.Path.{_∙_}
 use native.Mathlib.Omega.{arith}
-use Rattle.session.specs.Calls.{stagingFits}
-use Rattle.session.proofs.Admission.{known, set-decides}
+use Rattle.admission.specs.Gates.{setFits}
+use Rattle.admission.proofs.Known.{known}
+use Rattle.admission.proofs.Gates.{set-decides}
 use borrow.Author.Needs.{needs}
-use Rattle.session.proofs.staged.Statement.{statement}
-use Rattle.session.proofs.staged.Tie as tie
+use Rattle.admission.proofs.staged.Statement.{statement}
+use Rattle.admission.proofs.staged.Tie as tie
 
 update-bank-requires : tie.Need-update-bank-requires
 update-bank-requires c κs = search needs
 
 returns : tie.Need-returns
-unfolding stagingFits
-returns c = rw (← c .before .update-bank .ensures, ne-eqb _ _ (c .if1 .taken))
+unfolding setFits
+returns c = rw (← c .before .update-bank .ensures .0, ne-eqb _ _ (c .if1 .taken))
 
 add-at : tie.Need-add-at
 add-at c = search needs
@@ -23,13 +24,13 @@ shared-slice-read-if2 c =
     let e = c .before in
     let s = c .before .before .before .before in
     let k = known (s .args .r .now) (s .pre) in
-    omega (arith, k .header, k .update-low, k .banks-high, e .before .update-bank .ensures, e .if1 .left)
+    omega (arith, k .header, k .update-low, k .banks-high, e .before .update-bank .ensures .0, e .if1 .left)
 
 returns-2 : tie.Need-returns-2
-unfolding stagingFits
+unfolding setFits
 returns-2 c =
     let e = c .before .before in
-    rw (← e .before .update-bank .ensures, eq-eqb _ _ (e .if1 .left), ne-eqb _ _ (c .if2 .taken))
+    rw (← e .before .update-bank .ensures .0, eq-eqb _ _ (e .if1 .left), ne-eqb _ _ (c .if2 .taken))
 
 read16-requires : tie.Need-read16-requires
 read16-requires c κs = let s = c .before .before .before .before .before in omega (arith, known (s .args .r .now) (s .pre) .header)
@@ -49,7 +50,7 @@ returns-3 c =
     let e = c .before .before .before in
     let s = c .before .before .before .before .before .before in
     let r = s .args .r .now in
-    set-decides (s .args .bank) (s .args .set) (c .read16 .result) r (e .if1 .left ∙ e .before .update-bank .ensures) (f .if2 .left) (c .read16 .ensures)
+    set-decides (s .args .bank) (s .args .set) (c .read16 .result) r (e .if1 .left ∙ e .before .update-bank .ensures .0) (f .if2 .left) (c .read16 .ensures)
     (omega (arith, c .read16 .ensures, known r (s .pre) .images-high))
 
 pub staged-spec : {M : Type 1} → statement M

@@ -2,12 +2,12 @@
 use native.Mathlib.Omega.{arith}
 use lib.Count.{ones-le}
 use Rattle.record.specs.Layout.{imageCount}
-use Rattle.session.specs.Calls.{missing}
-use Rattle.session.proofs.Bits.{ones-in}
-use Rattle.session.proofs.Admission.{known}
+use Rattle.admission.specs.Set.{missing}
+use Rattle.admission.proofs.Bits.{ones-in}
+use Rattle.admission.proofs.Known.{known}
 use borrow.Author.Needs.{needs}
-use Rattle.session.proofs.missing_images.Statement.{statement}
-use Rattle.session.proofs.missing_images.Tie as tie
+use Rattle.admission.proofs.missing_images.Statement.{statement}
+use Rattle.admission.proofs.missing_images.Tie as tie
 
 read16-requires : tie.Need-read16-requires
 read16-requires c κs = let s = c .before in omega (arith, known (s .args .r .now) (s .pre .0) .header)

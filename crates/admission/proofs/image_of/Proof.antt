@@ -1,10 +1,10 @@
 -- `image_of` meets its contract. Assumes nothing.
 use native.Mathlib.Omega.{arith}
 use Rattle.record.proofs.Sound.{sound-sized}
-use Rattle.session.proofs.Admission.{known}
+use Rattle.admission.proofs.Known.{known}
 use borrow.Author.Needs.{needs}
-use Rattle.session.proofs.image_of.Statement.{statement}
-use Rattle.session.proofs.image_of.Tie as tie
+use Rattle.admission.proofs.image_of.Statement.{statement}
+use Rattle.admission.proofs.image_of.Tie as tie
 
 shared-slice-read-banks : tie.Need-shared-slice-read-banks
 shared-slice-read-banks c = let s = c .before .before .before in omega (arith, known (s .args .r .now) (s .pre .0) .header)

@@ -1,0 +1,37 @@
+-- What is known of the header of a sound record. Assumes nothing.
+use mathlib.Core.Path.{_≡_}
+use mathlib.Core.Bool.{true}
+use mathlib.Core.List.{List}
+use Prim.Native.Nat.{ℕ, _+_, _≤_, _<_}
+use native.Mathlib.Nat.{mod-lt}
+use native.Mathlib.Omega.{arith}
+use lib.ListN.{length}
+use Rattle.record.specs.Layout.{active, previous, bankCount, imageCount}
+use Rattle.record.specs.Rules.{sound}
+use Rattle.record.proofs.Sound.{sound-sized, sound-named}
+use Rattle.record.proofs.Sizes.{header-in}
+use Rattle.changes.specs.NewRecord.{updateBankOf}
+
+-- the header of a sound record is there, and its numbers have limits
+pub record Known (r : List ℕ) : Type 0 where
+  pub header : 40 ≤ length r
+  pub banks-low : 2 ≤ bankCount r
+  pub banks-high : bankCount r ≤ 4
+  pub images-high : imageCount r ≤ 32
+  pub active-low : active r < bankCount r
+  pub previous-low : previous r < bankCount r
+  pub update-low : updateBankOf r < bankCount r
+
+pub known : (r : List ℕ) → sound r ≡ true → Known r
+known r e =
+    let s = sound-sized r e in
+    let n = sound-named r e in
+    record {
+      header = header-in r (bankCount r) (imageCount r) s;
+      banks-low = s .banks-low;
+      banks-high = s .banks-high;
+      images-high = s .images-high;
+      active-low = n .0;
+      previous-low = n .1;
+      update-low = mod-lt (active r + 1) (omega (arith, s .banks-low));
+    }
