@@ -103,7 +103,7 @@ fn held_record(area: &[u8]) -> &[u8]
     record_in(&area[0..COPY])
 }
 
-// `staged` of the record that both copies hold; and so below.
+// `staged`, of the record that both copies hold. The functions that end in `_in` read that record.
 pub fn staged_in(area: &[u8], bank: u32, set: u32) -> bool
     requires { ⌜ Held (now area) ⌝ }
     ensures { λ b. ⌜ b ≡ setFits bank set (recordOf (copy0 (now (area .entry)))) ⌝ }
