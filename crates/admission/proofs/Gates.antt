@@ -9,15 +9,16 @@ use lib.Dec.{eqb, ltb}
 use lib.ListN.{length}
 use Rattle.fields.proofs.Tests.{both}
 use Rattle.refusals.specs.declared.Refusal.the-variants.{AreaLength, NoSoundCopy, CopiesDiffer, StoreSlice}
-use Rattle.record.specs.Layout.{areaSize, copy0, copy1, state, imageCount}
-use Rattle.record.specs.Rules.{soundCopy}
-use Rattle.copies.specs.Copies.{sourceOf, soundAndEqual}
+use Rattle.record.specs.Layout.{areaSize, recordOf, copy0, copy1, state, imageCount}
+use Rattle.record.specs.Rules.{sound, soundCopy}
+use Rattle.copies.specs.Copies.{sourceOf, recordsEqual, soundAndEqual}
 use Rattle.copies.specs.declared.Source.the-variants.{Copy0, Copy1, Neither}
 use Rattle.copies.proofs.Reading.{from-copy0}
 use Rattle.stores.specs.Stores.{storeNumbers}
+use Rattle.alterations.specs.Altered.{Changeable}
 use Rattle.changes.specs.NewRecord.{updateBankOf}
 use Rattle.admission.specs.declared.Gate.the-variants.{Open, Shut}
-use Rattle.admission.specs.Gates.{areaGate, equalGate, setFits}
+use Rattle.admission.specs.Gates.{areaGate, equalGate, Held, setFits}
 use Rattle.admission.proofs.Bits.{one-shifted}
 
 -- by the copy that is read
@@ -60,6 +61,15 @@ unfolding areaGate equalGate
 gate-open a n e =
     let p = passed (eqb (length a) areaSize) (ltb n storeNumbers) (soundCopy (copy0 a) || soundCopy (copy1 a)) (soundAndEqual a) e in
     (eqb-true (length a) areaSize (p .0), p .2, ltb-false n storeNumbers (p .1))
+
+-- the record that both copies hold is sound
+pub held-sound : (a : List ℕ) → Held a → sound (recordOf (copy0 a)) ≡ true
+unfolding soundAndEqual soundCopy
+held-sound a h =
+    both (soundCopy (copy0 a)) (soundCopy (copy1 a)) (both (soundCopy (copy0 a) && soundCopy (copy1 a)) (recordsEqual a) (h .equal) .0) .0
+
+pub changeable-held : (a s : List ℕ) → Changeable a s → Held a
+changeable-held a s h = record { long = h .long; equal = h .equal }
 
 -- 24, where bank and state are right: the set is below 2 to the power of the images
 pub set-decides : (bank set k : ℕ) (r : List ℕ) → bank ≡ updateBankOf r → state r bank ≡ 255 → k ≡ imageCount r → k < 64

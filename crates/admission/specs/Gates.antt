@@ -1,8 +1,9 @@
 -- What the functions here answer to those of a call. Nothing here is needed to read an entry's promise: crate session states 20 to 24 by itself
 -- and is proved to agree. a is the bytes of the area, r those of a record. Assumes nothing.
 use Prim.Native.Nat.{ℕ, _^_}
-use mathlib.Core.Bool.{Bool, cond, not, _&&_, _||_}
+use mathlib.Core.Bool.{Bool, true, cond, not, _&&_, _||_}
 use mathlib.Core.List.{List}
+use mathlib.Core.Path.{_≡_}
 use lib.Dec.{eqb, ltb}
 use lib.ListN.{length}
 use Rattle.refusals.specs.declared.Refusal.the-variants.{AreaLength, NoSoundCopy, CopiesDiffer, StoreSlice}
@@ -24,6 +25,11 @@ areaGate a sliceLength =
     cond (not (eqb (length a) areaSize)) (Shut AreaLength)
     (cond (ltb sliceLength storeNumbers) (Shut StoreSlice)
     (cond (not (soundCopy (copy0 a) || soundCopy (copy1 a))) (Shut NoSoundCopy) (equalGate a)))
+
+-- what is read of, past an open gate: sound and equal copies
+pub record Held (a : List ℕ) : Type 0 where
+  pub long : length a ≡ areaSize
+  pub equal : soundAndEqual a ≡ true
 
 -- not 24, of a Staging session with that bank and set
 unfoldable pub setFits : (bank set : ℕ) (r : List ℕ) → Bool

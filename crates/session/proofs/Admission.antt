@@ -1,19 +1,17 @@
 -- What a call knows once it is admitted, and what its result is where it is not. Assumes nothing.
 use mathlib.Core.Path.{_≡_, refl, sym, ap, _∙_}
-use mathlib.Core.Bool.{Bool, true, false, cond, not, _&&_, _||_}
+use mathlib.Core.Bool.{Bool, true, false, cond, not, _||_}
 use mathlib.Core.List.{List}
 use Prim.Native.Nat.{ℕ, _^_, _<_}
 use native.Mathlib.Omega.{arith}
 use lib.Dec.{eqb, ltb}
 use lib.ListN.{length}
-use Rattle.fields.proofs.Tests.{both}
 use Rattle.refusals.specs.declared.Refusal.{Refusal}
 use Rattle.refusals.specs.declared.Refusal.the-variants.{AreaLength, NoSoundCopy, CopiesDiffer, StoreSlice, StagingFault}
 use Rattle.record.specs.Layout.{areaSize, copy0, copy1, imageCount}
-use Rattle.record.specs.Rules.{sound, soundCopy}
-use Rattle.copies.specs.Copies.{recordsEqual, soundAndEqual}
+use Rattle.record.specs.Rules.{soundCopy}
+use Rattle.copies.specs.Copies.{soundAndEqual}
 use Rattle.stores.specs.Stores.{storeNumbers}
-use Rattle.alterations.specs.Altered.{Changeable}
 use Rattle.admission.specs.declared.Gate.{Gate}
 use Rattle.admission.specs.declared.Gate.the-variants.{Open, Shut}
 use Rattle.admission.specs.Gates.{areaGate, equalGate, setFits}
@@ -23,14 +21,6 @@ use Rattle.session.specs.declared.Session.the-variants.{Staging}
 use Rattle.session.specs.Outcome.{Decision, accepted, refused, refusedWith}
 use Rattle.session.specs.Calls.{Result, held, stagingFits, admission, ifAdmitted, called}
 use Rattle.session.specs.Admitted.{Admitted, stagingAdmission}
-
--- the record that both copies hold is sound
-pub equal-sound : (a : List ℕ) → soundAndEqual a ≡ true → sound (held a) ≡ true
-unfolding soundAndEqual soundCopy
-equal-sound a e = both (soundCopy (copy0 a)) (soundCopy (copy1 a)) (both (soundCopy (copy0 a) && soundCopy (copy1 a)) (recordsEqual a) e .0) .0
-
-pub held-sound : (a s : List ℕ) → Changeable a s → sound (held a) ≡ true
-held-sound a s h = equal-sound a (h .equal)
 
 -- a gate that is shut refuses with what it is shut by; past an open one there is 24 left
 pub decided : Gate → (rest : Decision) → Decision

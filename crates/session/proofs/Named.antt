@@ -1,6 +1,7 @@
 -- Which sessions a call's own line names, and which it refuses with 25. A match tells of a session the numbers of the cases that it may be:
 -- 0 Regular, 1 Staging, 2 Trial, 3 Fallback, 4 Restart. Assumes nothing.
 use mathlib.Core.Path.{_≡_, refl}
+use mathlib.Core.Bool.{true}
 use mathlib.Core.List.{List, _∷_, []}
 use Prim.Native.Nat.{ℕ}
 use denote.Enum.Declared.{tagOf}
@@ -10,7 +11,7 @@ use Rattle.changes.specs.NewRecord.{updateBankOf, begunRecord}
 use Rattle.session.specs.declared.Session.{Session}
 use Rattle.session.specs.declared.Session.the-variants.{Regular, Staging, Trial, Fallback, Restart}
 use Rattle.session.specs.Outcome.{refusedWith}
-use Rattle.session.specs.Calls.{held, refusedCall, changedTo, selected, beginLine, commitLine, endLine, cancelLine, acceptLine, selectPreviousLine}
+use Rattle.session.specs.Calls.{held, refusedCall, changedTo, stagingFits, selected, beginLine, commitLine, endLine, cancelLine, acceptLine, selectPreviousLine}
 use Rattle.session.proofs.Session.{the-type}
 
 pub begins : (q : Session) (a s : List ℕ) → OneOf (0 ∷ 1 ∷ []) (tagOf the-type q)
@@ -77,3 +78,12 @@ not-selecting (Staging bank set) a s h = refl
 not-selecting Trial a s h = absurd (miss (0 ∷ 1 ∷ 4 ∷ []) 2 tt h)
 not-selecting Fallback a s h = absurd (miss (0 ∷ 1 ∷ 4 ∷ []) 3 tt h)
 not-selecting Restart a s h = refl
+
+-- 24 is of a Staging session alone
+pub fits-otherwise : (q : Session) (r : List ℕ) → OneOf (0 ∷ 2 ∷ 3 ∷ 4 ∷ []) (tagOf the-type q) → true ≡ stagingFits q r
+unfolding stagingFits
+fits-otherwise Regular r h = refl
+fits-otherwise (Staging bank set) r h = absurd (miss (0 ∷ 2 ∷ 3 ∷ 4 ∷ []) 1 tt h)
+fits-otherwise Trial r h = refl
+fits-otherwise Fallback r h = refl
+fits-otherwise Restart r h = refl

@@ -1,6 +1,6 @@
 -- What each of the six calls answers and lists (document 01, "Session and calls" and "When the bench says no"). q is the session given, a the
 -- bytes of the area, s the numbers of the store slice, g the bytes of a type GUID. A call's result is its answer and the store slice at exit.
--- Assumes nothing.
+-- The set of committed images, `joined` and `missing`, is in crates/admission/specs/Set.antt. Assumes nothing.
 use Prim.Native.Nat.{ℕ, _^_}
 use mathlib.Core.Bool.{Bool, true, cond, not, _&&_, _||_}
 use mathlib.Core.List.{List}
@@ -92,8 +92,8 @@ commitLine Restart g request a s = refusedCall Restart SessionState s
 unfoldable pub commitCall : Session → (g : List ℕ) (request : ℕ) (a s : List ℕ) → Result
 commitCall q g request a s = called q a s (commitLine q g request a s)
 
--- "End (Staging): every image must be in the set; a refusal tells how many are missing. .. Restart."; 27: "images missing". The count `missing` is 0 exactly if every image is in the set, since
--- 24 has shut out bits at or past the image count
+-- "End (Staging): every image must be in the set; a refusal tells how many are missing. .. Restart."; 27: "images missing". The count `missing`
+-- is 0 exactly if every image is in the set, since 24 has shut out bits at or past the image count
 unfoldable pub endLine : Session → (a s : List ℕ) → Result
 endLine (Staging bank set) a s =
     cond (eqb (missing set (held a)) 0)

@@ -3,30 +3,26 @@
 // was, with no list.
 use admission::Gate;
 use admission::admit_area;
-use admission::image_of;
-use admission::missing_images;
-use admission::staged;
-use changes::all_accepted_with;
+use admission::all_accepted_in;
+use admission::image_count_in;
+use admission::image_in;
+use admission::missing_in;
+use admission::previous_state_in;
+use admission::staged_in;
+use admission::update_bank_in;
 use changes::list_accept;
 use changes::list_begin;
 use changes::list_commit;
 use changes::list_end;
 use changes::list_exchange;
-use changes::update_bank;
-use copies::COPY;
-use fields::read16;
-use fields::read32;
-use record::record_in;
 use refusals::Refusal;
 ghost use mathlib.Core.Path.{_≡_};
-ghost use mathlib.Core.Bool.{true};
 ghost use Prim.Native.Nat.{_<_};
 ghost use lib.ListN.{length};
 ghost use Rattle.record.specs.Layout.{imageCount};
-ghost use Rattle.record.specs.Rules.{sound};
-ghost use Rattle.copies.specs.Copies.{soundAndEqual};
 ghost use Rattle.alterations.specs.Altered.{Changeable};
 ghost use Rattle.changes.specs.NewRecord.{updateBankOf, begunRecord};
+ghost use Rattle.admission.specs.Gates.{Held};
 ghost use Rattle.session.specs.declared.Session.the-variants.{Staging, Trial};
 ghost use Rattle.session.specs.Outcome.{decisionOf, outcomeOf, refusedWith, acceptedWith};
 ghost use Rattle.session.specs.Calls.{held, changedTo, stagingFits, admission, afterAccept, selected, beginLine, commitLine, endLine, cancelLine, acceptLine, selectPreviousLine, beginCall, commitCall, endCall, cancelCall, acceptCall, selectPreviousCall};
@@ -80,25 +76,22 @@ impl Answer {
 }
 
 // 24, of any session.
-fn staging_fits(session: Session, r: &[u8]) -> bool
-    requires { ⌜ sound (now r) ≡ true ⌝ }
-    ensures { λ b. ⌜ b ≡ stagingFits session (now (r .entry)) ⌝ }
+fn staging_fits(session: Session, area: &[u8]) -> bool
+    requires { ⌜ Held (now area) ⌝ }
+    ensures { λ b. ⌜ b ≡ stagingFits session (held (now (area .entry))) ⌝ }
 {
     match session {
-        Session::Staging { bank, set } => staged(r, bank, set),
-        Session::Regular => true,
-        Session::Trial => true,
-        Session::Fallback => true,
-        Session::Restart => true,
+        Session::Staging { bank, set } => staged_in(area, bank, set),
+        _ => true,
     }
 }
 
-// 24, where the copies are sound and equal.
+// 24, past the tests of area and slice.
 fn admit_staging(session: Session, area: &[u8]) -> Verdict
-    requires { ⌜ (length (now area) ≡ 16384) × (soundAndEqual (now area) ≡ true) ⌝ }
+    requires { ⌜ Held (now area) ⌝ }
     ensures { λ v. ⌜ decisionOf v ≡ stagingAdmission session (now (area .entry)) ⌝ }
 {
-    if !staging_fits(session, record_in(&area[0..COPY])) {
+    if !staging_fits(session, area) {
         return Verdict::Refused(Refusal::StagingFault);
     }
     Verdict::Accepted
@@ -120,7 +113,7 @@ fn begin_update(area: &[u8], out: &mut [u32]) -> Answer
     requires { ⌜ Changeable (now area) (now out) ⌝ }
     ensures { λ r. ⌜ (outcomeOf r, now (out .exit)) ≡ changedTo (Staging (updateBankOf (held (now (area .entry)))) 0) (now (area .entry)) (begunRecord (held (now (area .entry)))) (now (out .entry)) ⌝ }
 {
-    let bank = update_bank(record_in(&area[0..COPY])) as u32;
+    let bank = update_bank_in(area);
     let n = list_begin(area, out);
     Answer::accepted(Session::Staging { bank, set: 0 }, n)
 }
@@ -137,10 +130,8 @@ fn commit_image(
     requires { ⌜ Changeable (now area) (now out) × (length (now guid) ≡ 16) ⌝ }
     ensures { λ r. ⌜ (outcomeOf r, now (out .exit)) ≡ commitLine (Staging bank set) (now (guid .entry)) request (now (area .entry)) (now (out .entry)) ⌝ }
 {
-    let r = record_in(&area[0..COPY]);
-    let images = read16(r, 34) as usize;
-    let i = image_of(r, guid);
-    if images <= i {
+    let i = image_in(area, guid);
+    if image_count_in(area) <= i {
         return Answer::refused(Session::Staging { bank, set }, Refusal::NoImage);
     }
     let joined = set | (1u32 << (i as u32));
@@ -153,7 +144,7 @@ fn end_update(bank: u32, set: u32, area: &[u8], out: &mut [u32]) -> Answer
     requires { ⌜ Admitted (Staging bank set) (now area) (now out) ⌝ }
     ensures { λ r. ⌜ (outcomeOf r, now (out .exit)) ≡ endLine (Staging bank set) (now (area .entry)) (now (out .entry)) ⌝ }
 {
-    let count = missing_images(record_in(&area[0..COPY]), set);
+    let count = missing_in(area, set);
     if count != 0 {
         return Answer::refused(
             Session::Staging { bank, set },
@@ -165,14 +156,11 @@ fn end_update(bank: u32, set: u32, area: &[u8], out: &mut [u32]) -> Answer
 }
 
 // The session after image i is accepted in the active bank.
-fn after_accept(r: &[u8], i: usize) -> Session
-    requires { ⌜ (sound (now r) ≡ true) × (i < imageCount (now r)) ⌝ }
-    ensures { λ q. ⌜ q ≡ afterAccept i (now (r .entry)) ⌝ }
+fn after_accept(area: &[u8], i: usize) -> Session
+    requires { ⌜ Held (now area) × (i < imageCount (held (now area))) ⌝ }
+    ensures { λ q. ⌜ q ≡ afterAccept i (held (now (area .entry))) ⌝ }
 {
-    let banks = r[32] as usize;
-    let images = read16(r, 34) as usize;
-    let active = read32(r, 8) as usize;
-    if all_accepted_with(r, banks, images, active, i) {
+    if all_accepted_in(area, i) {
         return Session::Regular;
     }
     Session::Trial
@@ -183,13 +171,11 @@ fn accept_image(area: &[u8], guid: &[u8], out: &mut [u32]) -> Answer
     requires { ⌜ Changeable (now area) (now out) × (length (now guid) ≡ 16) ⌝ }
     ensures { λ r. ⌜ (outcomeOf r, now (out .exit)) ≡ acceptLine Trial (now (guid .entry)) (now (area .entry)) (now (out .entry)) ⌝ }
 {
-    let r = record_in(&area[0..COPY]);
-    let images = read16(r, 34) as usize;
-    let i = image_of(r, guid);
-    if images <= i {
+    let i = image_in(area, guid);
+    if image_count_in(area) <= i {
         return Answer::refused(Session::Trial, Refusal::NoImage);
     }
-    let next = after_accept(r, i);
+    let next = after_accept(area, i);
     let n = list_accept(area, i, out);
     Answer::accepted(next, n)
 }
@@ -199,9 +185,7 @@ fn select_bank(session: Session, area: &[u8], out: &mut [u32]) -> Answer
     requires { ⌜ Changeable (now area) (now out) ⌝ }
     ensures { λ r. ⌜ (outcomeOf r, now (out .exit)) ≡ selected session (now (area .entry)) (now (out .entry)) ⌝ }
 {
-    let r = record_in(&area[0..COPY]);
-    let at = 24 + read32(r, 12) as usize;
-    if r[at] != 252 {
+    if previous_state_in(area) != 252 {
         return Answer::refused(session, Refusal::SessionState);
     }
     let n = list_exchange(area, out);

@@ -20,7 +20,7 @@ admit-staging-requires c κs =
     let g = c .before .before in
     let s = c .before .before .before .before in
     let o = gate-open (s .args .area .now) (s .args .numbers) (sym (g .admit-area .ensures) ∙ c .enum-told .given .1) in
-    (o .0, o .1)
+    record { long = o .0; equal = o .1 }
 
 returns : tie.Need-returns
 returns c =

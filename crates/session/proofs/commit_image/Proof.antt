@@ -1,77 +1,35 @@
 -- `commit_image` meets its contract. Assumes nothing.
-use mathlib.Core.Bool.{true}
-use mathlib.Core.Path.{_≡_}
 use native.Mathlib.Omega.{arith}
-use Rattle.record.specs.Rules.{sound}
-use Rattle.record.specs.Layout.{imageCount}
-use Rattle.changes.specs.NewRecord.{imageWith}
-use Rattle.session.specs.Calls.{held}
-use Rattle.admission.proofs.Known.{known}
-use Rattle.session.proofs.Admission.{held-sound}
 use Rattle.session.proofs.Lines.{not-committed, committed}
 use borrow.Author.Needs.{needs}
 use Rattle.session.proofs.commit_image.Statement.{statement}
 use Rattle.session.proofs.commit_image.Tie as tie
 
--- the record that both copies hold
-here : (c : tie.After-record-in) → sound (c .record-in .result .now) ≡ true
-here c =
-    let s = c .before .before .before .before .before in
-    rw (c .record-in .ensures) (held-sound (s .args .area .now) (s .args .out .now) (s .pre .0))
+image-in-requires : tie.Need-image-in-requires
+image-in-requires c κs = search needs
 
--- the image that was looked for, and the count of images
-found : (c : tie.After-image-of)
-    → let s = c .before .before .before .before .before .before .before in
-    (c .image-of .result ≡ imageWith (s .args .guid .now) (held (s .args .area .now))) × (c .before .read16 .result ≡ imageCount (held (s .args .area .now)))
-found c =
-    let e = c .before .before .record-in .ensures in (rw (← e) (c .image-of .ensures), rw (← e) (c .before .read16 .ensures))
-
-sub-record-in : tie.Need-sub-record-in
-sub-record-in c = search needs
-
-part-record-in-start : tie.Need-part-record-in-start
-part-record-in-start c = search needs
-
-part-record-in-end : tie.Need-part-record-in-end
-part-record-in-end c = search needs
-
-record-in-requires : tie.Need-record-in-requires
-record-in-requires c κs = search needs
-
-read16-requires : tie.Need-read16-requires
-read16-requires c κs = omega (arith, known _ (here c) .header)
-
-cast-images : tie.Need-cast-images
-cast-images c = search needs
-
-image-of-requires : tie.Need-image-of-requires
-image-of-requires c κs = (here (c .before), c .before .before .before .before .before .before .pre .1)
+image-count-in-requires : tie.Need-image-count-in-requires
+image-count-in-requires c κs = search needs
 
 refused-requires : tie.Need-refused-requires
 refused-requires c κs = search needs
 
 returns : tie.Need-returns
 returns c =
-    let i = c .before .before in
-    let s = c .before .before .before .before .before .before .before .before .before in
-    let f = found i in
+    let n = c .before .before in
+    let s = c .before .before .before .before .before .before .before in
     rw (c .refused .ensures)
     (not-committed (s .args .bank) (s .args .set) (s .args .request) (s .args .guid .now) (s .args .area .now) (s .args .out .now)
-    (omega (arith, f .0, f .1, c .before .if1 .taken)))
+    (omega (arith, n .before .image-in .ensures, n .image-count-in .ensures .0, c .before .if1 .taken)))
 
 cast-joined : tie.Need-cast-joined
 cast-joined c = search needs
 
 shl-joined : tie.Need-shl-joined
-shl-joined c =
-    let i = c .before in
-    omega (arith, c .if1 .left, i .before .read16 .ensures, known _ (here (i .before .before)) .images-high)
+shl-joined c = omega (arith, c .if1 .left, c .before .image-count-in .ensures .1)
 
 list-commit-requires : tie.Need-list-commit-requires
-list-commit-requires c κs =
-    let e = c .before in
-    let f = found (e .before) in
-    (c .before .before .before .before .before .before .before .before .before .pre .0, omega (arith, f .1, e .if1 .left))
+list-commit-requires c κs = search needs
 
 accepted-requires : tie.Need-accepted-requires
 accepted-requires c κs = search needs
@@ -83,26 +41,19 @@ returns-2 : tie.Need-returns-2
 returns-2 c =
     let n = c .before .before .before in
     let e = c .before .before .before .before .before in
-    let i = e .before in
-    let s = c .before .before .before .before .before .before .before .before .before .before .before .before .before in
-    let f = found i in
+    let k = c .before .before .before .before .before .before .image-count-in .ensures in
+    let i = c .before .before .before .before .before .before .before .image-in in
+    let s = c .before .before .before .before .before .before .before .before .before .before .before in
     rw (c .accepted .ensures)
-    (committed (s .args .bank) (s .args .set) (s .args .request) (i .image-of .result) _ (s .args .guid .now) (s .args .area .now) (s .args .out .now) _ (f .0)
-    (omega (arith, f .1, e .if1 .left))
-    (omega (arith, e .if1 .left, i .before .read16 .ensures, known _ (here (i .before .before)) .images-high))
-    (n .list-commit .ensures))
+    (committed (s .args .bank) (s .args .set) (s .args .request) (i .result) _ (s .args .guid .now) (s .args .area .now) (s .args .out .now) _ (i .ensures)
+    (omega (arith, k .0, e .if1 .left)) (omega (arith, k .1, e .if1 .left)) (n .list-commit .ensures))
 
 pub commit-image-spec : {M : Type 1} → statement M
 commit-image-spec =
     tie.close
     (tie.spec
-    sub-record-in
-    part-record-in-start
-    part-record-in-end
-    record-in-requires
-    read16-requires
-    cast-images
-    image-of-requires
+    image-in-requires
+    image-count-in-requires
     refused-requires
     returns
     cast-joined
