@@ -51,8 +51,8 @@ pub fn item(s: &[u8], k: usize) -> &[u8]
     }
 }
 
-// Where a payload's image starts in its item.
-fn image_start(p: &[u8]) -> usize
+// Where a payload's image starts in its item. This function and the next serve c_interface too, which tells starts in numbers.
+pub fn image_start(p: &[u8]) -> usize
     requires { ⌜ payloadRight (now p) ≡ true ⌝ }
     ensures { λ r. ⌜ r ≡ imageStart (now (p .entry)) ⌝ }
 {
@@ -60,7 +60,7 @@ fn image_start(p: &[u8]) -> usize
 }
 
 // Where it ends there; the vendor code follows.
-fn image_end(p: &[u8]) -> usize
+pub fn image_end(p: &[u8]) -> usize
     requires { ⌜ payloadRight (now p) ≡ true ⌝ }
     ensures { λ r. ⌜ r ≡ imageEnd (now (p .entry)) ⌝ }
 {

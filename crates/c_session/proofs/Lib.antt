@@ -1,0 +1,2 @@
+-- What the proofs of this crate and of the exported functions share. Assumes nothing.
+pub mod Answered
