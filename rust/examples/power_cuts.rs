@@ -22,8 +22,12 @@ use std::path::Path;
 use std::process::{Child, Command, Stdio};
 use std::time::{Duration, Instant};
 
-/// A child's time for one store: long enough that a kill can be aimed between two.
-const PACE: Duration = Duration::from_micros(12);
+/// A child's time for one store: a list takes 2 milliseconds or more, so that most kills fall between its first and its last.
+fn pace(stores: usize) -> Duration {
+    let least = Duration::from_micros(12);
+    least.max(Duration::from_millis(2) / stores.max(1) as u32)
+}
+
 /// After so many killed repairs one is left to finish.
 const MOST_KILLED_REPAIRS: u64 = 3;
 
@@ -56,7 +60,7 @@ fn child(file: &Path, call: u64, seed: u64, k: u64) {
     std::io::stdout().flush().expect("standard output");
     let start = Instant::now();
     for (i, store) in stores.iter().enumerate() {
-        while start.elapsed() < PACE * i as u32 {
+        while start.elapsed() < pace(stores.len()) * i as u32 {
             std::hint::spin_loop();
         }
         area.write_all_at(&store.word.to_le_bytes(), store.offset as u64).expect("a store");
@@ -75,9 +79,9 @@ fn spawn(file: &Path, call: u64, seed: u64, k: u64) -> Child {
 fn run_child(mut child: Child, draw: &mut Draw, kill: bool) -> bool {
     let mut line = String::new();
     BufReader::new(child.stdout.as_mut().expect("its output")).read_line(&mut line).expect("its count");
-    let stores: u32 = line.trim().parse().expect("a child that lists its stores");
+    let stores: usize = line.trim().parse().expect("a child that lists its stores");
     if kill {
-        let whole = PACE * (stores + 2);
+        let whole = pace(stores) * (stores as u32 + 1);
         let moment = whole * draw.below(10_000) as u32 / 10_000;
         wait(moment);
         child.kill().expect("a kill");
