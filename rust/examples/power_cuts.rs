@@ -207,8 +207,14 @@ fn main() {
         return;
     }
     let c = parent(number(0, 3_000), number(1, 60), number(2, 1));
-    println!("changes {}: cut before the first store {}, in the middle {}, after the last {}", c.changes, c.first, c.middle, c.last);
-    println!("kills {}, of them in repairs {}; repairs finished {}; start-ups {}", c.kills, c.repairs_killed, c.repairs_finished, c.start_ups);
+    println!(
+        "changes {}: cut before the first store {}, in the middle {}, after the last {}",
+        c.changes, c.first, c.middle, c.last
+    );
+    println!(
+        "kills {}, of them in repairs {}; repairs finished {}; start-ups {}",
+        c.kills, c.repairs_killed, c.repairs_finished, c.start_ups
+    );
     println!("read after the change's cut: old {}, new {}; anything else {}", c.old, c.new, c.else_read);
     if c.else_read > 0 {
         std::process::exit(1);

@@ -246,13 +246,7 @@ pub fn cancel(session: &mut Numbers, area: &[u8], stores: &mut [u32], pairs: &mu
     unsafe { library::meanderpeg_cancel(kind, bank, set, bytes, length, stores.as_mut_ptr(), stores.len(), pairs) }
 }
 
-pub fn accept(
-    session: &mut Numbers,
-    area: &[u8],
-    guid: &[u8; 16],
-    stores: &mut [u32],
-    pairs: &mut usize,
-) -> u32 {
+pub fn accept(session: &mut Numbers, area: &[u8], guid: &[u8; 16], stores: &mut [u32], pairs: &mut usize) -> u32 {
     let Numbers { kind, bank, set } = session;
     let (bytes, length, guid) = (area.as_ptr(), area.len(), guid.as_ptr());
     let (list, numbers) = (stores.as_mut_ptr(), stores.len());

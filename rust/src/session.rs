@@ -166,7 +166,10 @@ mod tests {
         for given in ALL {
             let (mut session, mut pairs, mut missing) = (given, 77, 88);
             let number = raw::end(&mut session, &area, &mut list, &mut pairs, &mut missing);
-            assert_eq!((number, session.kind, session.bank, session.set, pairs, missing), (25, given.kind, 7, 9, 77, 88));
+            assert_eq!(
+                (number, session.kind, session.bank, session.set, pairs, missing),
+                (25, given.kind, 7, 9, 77, 88)
+            );
         }
         let (mut kind, mut copies) = (55, 66);
         assert_eq!((raw::start_up(&area, 2, &mut kind), kind), (28, 55));

@@ -4,8 +4,9 @@
 mod compare;
 
 use second::answers::call_answer;
-use second::inputs::{call_input, Draw};
-use second::record::{banks, both_sound_and_equal, record_read};
+use second::inputs::{call_input, sound_plan, Draw, SAME_CRC};
+use second::make::{make_area, record_bytes};
+use second::record::{banks, both_sound_and_equal, record_read, sound};
 use second::session as plain;
 use second::stores::{apply, bad_repair_cut};
 
@@ -106,4 +107,25 @@ fn lists_of_start_ups_and_repairs() {
     }
     println!("{lists} lists, {finished_lists} of them with a finished repair");
     assert!(lists >= 4_000 && finished_lists >= 1_000 && finished_lists < lists);
+}
+
+/// "This may not rest on a checksum being unlikely to match": copy 0 is not sound, yet holds another record with the same CRC as
+/// copy 1's, but for its version or for the CRC field, so that one store could make it sound. A repair must not read it meanwhile.
+#[test]
+fn another_record_with_the_same_checksum() {
+    for k in 0..2_000 {
+        let mut draw = Draw::start(22, SEED, k);
+        let plan = sound_plan(&mut draw);
+        let (tint, image, at) = (draw.below(256), draw.below(plan.images as u64), draw.below(12));
+        let record = record_bytes(&plan);
+        let mut other = record.clone();
+        let from = 40 + image as usize * (32 + 24 * plan.banks) + 16 + at as usize;
+        other[from..from + 5].iter_mut().zip(SAME_CRC).for_each(|(byte, bits)| *byte ^= bits);
+        assert!(sound(&other) && other[..4] == record[..4], "input {k}: one checksum for both");
+        other[if k % 2 == 0 { 4 } else { draw.below(4) as usize }] ^= 1;
+        let area = make_area(&other, &record, tint as usize);
+        let pairs = repair_list(&area, meanderpeg::STORE_NUMBERS).expect("a sound copy");
+        assert_eq!(bad_repair_cut(&area, &pairs), None, "input {k}");
+        assert!(apply(&area, &pairs) == make_area(&record, &record, tint as usize), "input {k}: the area");
+    }
 }

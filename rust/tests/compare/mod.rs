@@ -159,7 +159,8 @@ impl Lent {
     /// As many numbers as the slice is to have, none of them 0, and some behind it that must stay.
     fn new(length: u64, k: u64) -> Lent {
         let length = length as usize;
-        let numbers: Vec<u32> = (0..length + MARGIN).map(|i| 0x8000_0001 + (i as u32) * 7 + (k as u32 % 1_000)).collect();
+        let numbers: Vec<u32> =
+            (0..length + MARGIN).map(|i| 0x8000_0001 + (i as u32) * 7 + (k as u32 % 1_000)).collect();
         Lent { before: numbers.clone(), numbers, length }
     }
 
@@ -196,14 +197,7 @@ fn compare_repair(seed: u64, k: u64, tally: &mut Tally) {
 }
 
 /// What document 01 asks of a repair's list.
-fn judge_repair(
-    area: &[u8],
-    pairs: &[(u32, u32)],
-    wanted: &plain::Answer,
-    name: &str,
-    cut: bool,
-    tally: &mut Tally,
-) {
+fn judge_repair(area: &[u8], pairs: &[(u32, u32)], wanted: &plain::Answer, name: &str, cut: bool, tally: &mut Tally) {
     let Some(read) = &wanted.record else {
         tally.add(&format!("refusal {}", wanted.refusal));
         return;
@@ -256,7 +250,7 @@ fn compare_call(entry: &str, call: u64, seed: u64, k: u64, tally: &mut Tally) {
         tally.add(&format!("refusal {}", wanted.refusal));
         return;
     };
-    judge_change(&input.area, &pairs, new, &wanted, &name, is_cut(pairs.len(), k), tally);
+    judge_change(&input.area, &pairs, &wanted, &name, is_cut(pairs.len(), k), tally);
     let altered = if wanted.area == input.area { "as it was" } else { "altered" };
     tally.add(&format!("accepted, {} to {}, {}", name_of(session_of(input.session)), name_of(session), altered));
     if entry == "cancel" {
@@ -272,16 +266,9 @@ fn compare_call(entry: &str, call: u64, seed: u64, k: u64, tally: &mut Tally) {
 }
 
 /// What document 01 asks of a change's list: offsets, the area after all stores and, if it is cut, demand 3 at every cut.
-fn judge_change(
-    area: &[u8],
-    pairs: &[(u32, u32)],
-    new: &[u8],
-    wanted: &plain::Answer,
-    name: &str,
-    cut: bool,
-    tally: &mut Tally,
-) {
+fn judge_change(area: &[u8], pairs: &[(u32, u32)], wanted: &plain::Answer, name: &str, cut: bool, tally: &mut Tally) {
     let old = record_read(area).expect("a sound copy").1;
+    let new = wanted.record.as_ref().expect("the new record");
     assert!(offsets_good(pairs, old.len(), new.len()), "{name}: offsets");
     assert!(apply(area, pairs) == wanted.area, "{name}: the area after all stores");
     if cut {
@@ -321,51 +308,76 @@ fn compare_sheet(seed: u64, k: u64, tally: &mut Tally) {
     }
     assert_eq!(found, Some(&wanted[..]), "sheet {seed} {k}");
     assert!(text[wanted.len()..].iter().all(|&byte| byte == 0xEE), "sheet {seed} {k}: bytes past the text");
-    let first = wanted.lines().next().unwrap_or("");
-    tally.add(&first.split('\t').take(2).collect::<Vec<_>>().join(" "));
+    let first: Vec<&str> = wanted.lines().next().expect("a line").split('\t').collect();
+    tally.add(&format!("{} {}", if first[0] == "refused" { "refusal" } else { first[0] }, first[1]));
 }
 
-/// Every outcome that the inputs must reach: each refusal that an entry can give and each accepted case.
-pub fn wanted_outcomes(entry: &str) -> Vec<String> {
-    let area = "20 21 22 23 24 25";
-    let (numbers, accepted): (String, &[&str]) = match entry {
-        "gather" => ("1 2 3 4 5 6 7".into(), &["at the window's start", "further up"]),
-        "capsule" => {
-            ("10 11 12 13 14 15 16".into(), &["driver", "payload version 1", "payload version 2"])
-        }
-        "start_up" => ("20 21 28".into(), &["Regular", "Trial", "Fallback"]),
-        "repair" => ("20 21 23".into(), &["no store", "copy 0 written", "copy 1 written"]),
-        "begin" => (
-            area.into(),
-            &["Regular to Staging, altered", "Staging to Staging, altered", "Staging to Staging, as it was"],
-        ),
-        "commit" => (
-            format!("{area} 26"),
-            &["Staging to Staging, altered", "Staging to Staging, as it was", "request 0", "request above 0"],
-        ),
-        "end" => (
-            format!("{area} 27"),
-            &["Staging to Restart, altered", "the bank becomes 252", "the bank becomes 254"],
-        ),
-        "cancel" => (area.into(), &["Staging to Regular, as it was"]),
-        "accept" => (
-            format!("{area} 26"),
-            &[
-                "Trial to Trial, altered",
-                "Trial to Trial, as it was",
-                "Trial to Regular, altered",
-                "Trial to Regular, as it was",
-            ],
-        ),
-        "select_previous" => (
-            area.into(),
-            &["Trial to Restart, altered", "Fallback to Restart, altered", "Trial to Restart, as it was"],
-        ),
-        "sheet" => return ["record 0", "record 1", "refused 20", "refused 21", "slice too short"].map(String::from).into(),
-        _ => return wanted_rules(),
+/// What the inputs of each entry but soundness must reach: each refusal that it can give, and each accepted case.
+const OUTCOMES: [(&str, &str, &[&str]); 11] = [
+    ("gather", "1 2 3 4 5 6 7", &["accepted, at the window's start", "accepted, further up"]),
+    (
+        "capsule",
+        "10 11 12 13 14 15 16",
+        &["accepted, driver", "accepted, payload version 1", "accepted, payload version 2"],
+    ),
+    ("start_up", "20 21 28", &["accepted, Regular", "accepted, Trial", "accepted, Fallback"]),
+    ("repair", "20 21 23", &["accepted, no store", "accepted, copy 0 written", "accepted, copy 1 written"]),
+    (
+        "begin",
+        "20 21 22 23 24 25",
+        &[
+            "accepted, Regular to Staging, altered",
+            "accepted, Regular to Staging, as it was",
+            "accepted, Staging to Staging, altered",
+            "accepted, Staging to Staging, as it was",
+        ],
+    ),
+    (
+        "commit",
+        "20 21 22 23 24 25 26",
+        &[
+            "accepted, Staging to Staging, altered",
+            "accepted, Staging to Staging, as it was",
+            "accepted, request 0",
+            "accepted, request above 0",
+        ],
+    ),
+    (
+        "end",
+        "20 21 22 23 24 25 27",
+        &["accepted, Staging to Restart, altered", "accepted, the bank becomes 252", "accepted, the bank becomes 254"],
+    ),
+    ("cancel", "20 21 22 23 24 25", &["accepted, Staging to Regular, as it was"]),
+    (
+        "accept",
+        "20 21 22 23 24 25 26",
+        &[
+            "accepted, Trial to Trial, altered",
+            "accepted, Trial to Trial, as it was",
+            "accepted, Trial to Regular, altered",
+            "accepted, Trial to Regular, as it was",
+        ],
+    ),
+    (
+        "select_previous",
+        "20 21 22 23 24 25",
+        &[
+            "accepted, Trial to Restart, altered",
+            "accepted, Trial to Restart, as it was",
+            "accepted, Fallback to Restart, altered",
+            "accepted, Fallback to Restart, as it was",
+        ],
+    ),
+    ("sheet", "20 21", &["record 0", "record 1", "slice too short"]),
+];
+
+/// Every outcome that the inputs of an entry must reach.
+fn wanted_outcomes(entry: &str) -> Vec<String> {
+    let Some((_, numbers, others)) = OUTCOMES.iter().find(|(name, _, _)| *name == entry) else {
+        return wanted_rules();
     };
-    let refusals = numbers.split(' ').map(|number| format!("refusal {number}")).collect::<Vec<_>>();
-    refusals.into_iter().chain(accepted.iter().map(|case| format!("accepted, {case}"))).collect()
+    let refusals = numbers.split(' ').map(|number| format!("refusal {number}"));
+    refusals.chain(others.iter().map(|case| case.to_string())).collect()
 }
 
 /// Each rule broken in each copy, and each answer of soundness.
@@ -374,10 +386,10 @@ fn wanted_rules() -> Vec<String> {
     for copy in 0..2 {
         outcomes.extend((0..15).map(|rule| format!("copy {copy}, rule {rule:02}")));
     }
-    for answer in ["false false, equal false", "true false, equal false", "false true, equal false"] {
-        outcomes.push(format!("sound {answer}"));
+    for sound in ["false false", "true false", "false true", "true true"] {
+        outcomes.push(format!("sound {sound}, equal false"));
     }
-    outcomes.extend(["sound true true, equal false", "sound true true, equal true"].map(String::from));
+    outcomes.push("sound true true, equal true".to_string());
     outcomes
 }
 
