@@ -29,3 +29,21 @@ pub fn gather(window: &mut [u8], base: u64, first: u64) -> Result<Gathered, Refu
         Some(refusal) => Err(refusal),
     }
 }
+
+#[cfg(test)]
+mod tests {
+    use super::*;
+
+    /// What the safe function cannot show: a refusal leaves both numbers behind references as they were.
+    #[test]
+    fn numbers_behind_references() {
+        let (mut window, mut address, mut total) = ([0; 32], 77, 88);
+        assert_eq!(raw::gather(&mut window, 4_096, 4_096, &mut address, &mut total), 6);
+        assert_eq!((address, total), (77, 88));
+        assert_eq!(gather(&mut window, 4_096, 4_096), Err(Refusal::TotalZero));
+        window[..8].copy_from_slice(&2u64.to_le_bytes());
+        window[8..16].copy_from_slice(&4_096u64.to_le_bytes());
+        assert_eq!(gather(&mut window, 4_096, 4_096), Err(Refusal::NoPlace));
+        assert_eq!(gather(&mut window[..0], 0, 0), Err(Refusal::DescriptorAddress));
+    }
+}
