@@ -1,6 +1,6 @@
 //! How fast the library is, built for release, the best of many runs on one machine: gathering 16 MiB from 255 blocks against a
 //! straightforward Rust version (`copy_within`), and start-up, soundness and Begin on the largest record, 4,136 bytes. The windows
-//! and the area are warm. `cargo bench --offline`.
+//! and the area are warm. `cargo bench --offline`; with `-- calls`, without gathering.
 
 use meanderpeg::{Gathered, Session, STORE_NUMBERS};
 use second::make::{make_area, make_record, put_descriptor};
@@ -58,12 +58,12 @@ fn window(gap: usize, order: fn(usize) -> usize) -> Vec<u8> {
     window
 }
 
-/// Both versions in turn, 20 times; the best time of each.
+/// Both versions in turn, 100 times; the best time of each.
 fn gathering(name: &str, gap: usize, order: fn(usize) -> usize) -> f64 {
     let mut one = window(gap, order);
     let mut two = one.clone();
     let mut best = [f64::MAX; 2];
-    for _ in 0..20 {
+    for _ in 0..100 {
         let start = Instant::now();
         let wanted = plain(&mut one, BASE);
         best[0] = best[0].min(start.elapsed().as_secs_f64());
@@ -91,7 +91,7 @@ fn call(name: &str, mut one: impl FnMut()) {
     println!("{name}: {:.0} ns a call", best * 1e9);
 }
 
-fn main() {
+fn gatherings() {
     let worst = [
         gathering("blocks side by side, in list order", 0, |i| i),
         gathering("blocks side by side, permuted", 0, |i| i * 101 % 255),
@@ -99,6 +99,12 @@ fn main() {
         gathering("blocks 8 bytes apart, permuted", 8, |i| i * 101 % 255),
     ];
     println!("gather, worst ratio {:.2}", worst.into_iter().fold(0.0, f64::max));
+}
+
+fn main() {
+    if !std::env::args().any(|argument| argument == "calls") {
+        gatherings();
+    }
     let record = make_record(4, 32, 0, 1);
     assert_eq!(record.len(), 4_136);
     let area = make_area(&record, &record, 0);
