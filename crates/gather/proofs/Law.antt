@@ -127,7 +127,7 @@ module _ (w : List ℕ) (B first : ℕ) where
   if-6 o w′ (by-list n r) x = absurd (omega (arith, same-refusal (numberOf n) 6 w w′ x .0, refused-early w B first n r))
   if-6 o w′ (by-total t ds r z) x =
       let f = whole-law w B first t ds r in
-      record { descriptors = ds; list = f .0; zero = sym (f .1) ∙ z; unchanged = sym (same-refusal 6 6 w w′ x .1); }
+      record { descriptors = ds; list = f .0; zero = sym (f .1) ∙ z; unchanged = sym (same-refusal 6 6 w w′ x .1) }
   if-6 o w′ (by-no-place t ds r some e) x = absurd (omega (arith, same-refusal 7 6 w w′ x .0))
   if-6 o w′ (by-place t ds q r some e) x = absurd (not-refused 6 (put w (q - B) (blocks w B ds)) w′ q t x)
 
