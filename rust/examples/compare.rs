@@ -7,8 +7,8 @@ mod compare;
 use second::digest::Tally;
 use std::panic::catch_unwind;
 
-/// Compares all inputs of an entry; answers how many differ. The first five are told.
-fn run(entry: &str, seed: u64, inputs: u64) -> u64 {
+/// Compares the inputs of an entry, up to the fifth that differs; answers how many were compared and how many differ.
+fn run(entry: &str, seed: u64, inputs: u64) -> (u64, u64) {
     let mut tally = Tally::default();
     let mut differ = 0;
     for k in 0..inputs {
@@ -23,7 +23,7 @@ fn run(entry: &str, seed: u64, inputs: u64) -> u64 {
         }
         if differ == 5 {
             println!("{entry}\tgiven up after five differences, at input {k}");
-            return differ;
+            return (k + 1, differ);
         }
     }
     for (outcome, count) in &tally.counts {
@@ -32,7 +32,7 @@ fn run(entry: &str, seed: u64, inputs: u64) -> u64 {
     for outcome in compare::unreached(entry, &tally) {
         println!("{entry}\t0\t{outcome}");
     }
-    differ
+    (inputs, differ)
 }
 
 fn main() {
@@ -43,8 +43,9 @@ fn main() {
     let (mut total, mut differ) = (0, 0);
     for entry in compare::ENTRIES {
         if wanted.as_deref().is_none_or(|name| name == entry) {
-            total += inputs;
-            differ += run(entry, seed, inputs);
+            let (compared, differing) = run(entry, seed, inputs);
+            total += compared;
+            differ += differing;
         }
     }
     println!("{total} inputs, {differ} differ");

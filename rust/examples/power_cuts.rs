@@ -4,7 +4,8 @@
 //! repair, and after a finished repair the whole area is the one that document 01 gives for that record.
 //!
 //! Arguments: the number of kills to stop at (3,000), the seconds to stop at (60), the seed (1). Exit status 1 if anything else
-//! was read or left.
+//! was read or left. With `backwards` as a fourth argument the children do a change's stores in the wrong order, to show that
+//! this is noticed: the exit status must then be 1.
 
 #[path = "../tests/compare/mod.rs"]
 mod compare;
@@ -47,7 +48,7 @@ struct Counts {
 }
 
 /// A child: does the stores of a call (call 2 to 7 with input `seed`, `k`) or of a repair (call 1), told of by the file alone.
-fn child(file: &Path, call: u64, seed: u64, k: u64) {
+fn child(file: &Path, call: u64, seed: u64, k: u64, backwards: bool) {
     let mut input = if call == 1 { call_input(1, 0, 0) } else { call_input(call, seed, k) };
     input.area = fs::read(file).expect("the area's file");
     let mut numbers = [0; meanderpeg::STORE_NUMBERS];
@@ -63,32 +64,32 @@ fn child(file: &Path, call: u64, seed: u64, k: u64) {
         while start.elapsed() < pace(stores.len()) * i as u32 {
             std::hint::spin_loop();
         }
+        let store = if backwards { stores[stores.len() - 1 - i] } else { *store };
         area.write_all_at(&store.word.to_le_bytes(), store.offset as u64).expect("a store");
     }
 }
 
-fn spawn(file: &Path, call: u64, seed: u64, k: u64) -> Child {
+fn spawn(file: &Path, call: u64, seed: u64, k: u64, order: &str) -> Child {
     let program = std::env::current_exe().expect("this program");
     let mut command = Command::new(program);
-    command.arg("child").arg(file).args([call, seed, k].map(|n| n.to_string()));
+    command.arg("child").arg(file).args([call, seed, k].map(|n| n.to_string())).arg(order);
     command.stdout(Stdio::piped()).spawn().expect("a child")
 }
 
 /// Runs a child and kills it at a moment drawn over the time that its stores take, or lets it finish. Answers whether it was
-/// killed before it had finished.
-fn run_child(mut child: Child, draw: &mut Draw, kill: bool) -> bool {
+/// killed before it had finished; none if it failed.
+fn run_child(mut child: Child, draw: &mut Draw, kill: bool) -> Option<bool> {
     let mut line = String::new();
     BufReader::new(child.stdout.as_mut().expect("its output")).read_line(&mut line).expect("its count");
-    let stores: usize = line.trim().parse().expect("a child that lists its stores");
-    if kill {
+    let listed: Result<usize, _> = line.trim().parse();
+    if let (true, Ok(stores)) = (kill, listed) {
         let whole = pace(stores) * (stores as u32 + 1);
         let moment = whole * draw.below(10_000) as u32 / 10_000;
         wait(moment);
         child.kill().expect("a kill");
     }
     let status = child.wait().expect("its end");
-    assert!(status.success() || status.signal() == Some(9), "a child ended by itself: {status}");
-    status.signal() == Some(9)
+    (status.success() || status.signal() == Some(9)).then_some(!status.success())
 }
 
 /// Sleeps, and spins for the last part, which a sleep would overrun.
@@ -125,7 +126,7 @@ fn repair(file: &Path, record: &[u8], wanted: &[u8], draw: &mut Draw, counts: &m
     let mut killed = 0;
     loop {
         let kill = killed < MOST_KILLED_REPAIRS && draw.below(4) > 0;
-        let was_killed = run_child(spawn(file, 1, 0, 0), draw, kill);
+        let Some(was_killed) = run_child(spawn(file, 1, 0, 0, "forwards"), draw, kill) else { return false };
         let Some((area, read)) = read(file, counts) else { return false };
         if read != record {
             return false;
@@ -148,15 +149,19 @@ fn cut_of(input: &CallInput, pairs: &[(u32, u32)], left: &[u8]) -> Option<usize>
 }
 
 /// One change, cut and repaired. Answers whether only the old record and the new were read.
-fn change(file: &Path, call: u64, seed: u64, k: u64, draw: &mut Draw, counts: &mut Counts) -> bool {
+fn change(file: &Path, (call, seed, k): (u64, u64, u64), order: &str, draw: &mut Draw, counts: &mut Counts) -> bool {
     let input = call_input(call, seed, k);
     let answer = call_answer(call, &input);
     let mut numbers = [0; meanderpeg::STORE_NUMBERS];
-    let pairs = compare::pairs_of(compare::answer_of(call, &input, &mut numbers).stores);
+    let mut pairs = compare::pairs_of(compare::answer_of(call, &input, &mut numbers).stores);
+    if order == "backwards" {
+        pairs.reverse();
+    }
     let (old, new) = (record_read(&input.area).expect("the old record").1, answer.record.expect("the new record"));
     fs::write(file, &input.area).expect("the area's file");
-    if run_child(spawn(file, call, seed, k), draw, true) {
-        counts.kills += 1;
+    match run_child(spawn(file, call, seed, k, order), draw, true) {
+        None => return false,
+        Some(killed) => counts.kills += killed as u64,
     }
     counts.changes += 1;
     let Some((left, record)) = read(file, counts) else { return false };
@@ -178,7 +183,7 @@ fn change(file: &Path, call: u64, seed: u64, k: u64, draw: &mut Draw, counts: &m
     repair(file, &record, &wanted, draw, counts)
 }
 
-fn parent(kills: u64, seconds: u64, seed: u64) -> Counts {
+fn parent(kills: u64, seconds: u64, seed: u64, order: &str) -> Counts {
     let file = std::env::temp_dir().join(format!("meanderpeg-area-{}", std::process::id()));
     let (start, mut draw, mut counts) = (Instant::now(), Draw::start(20, seed, 0), Counts::default());
     let mut k = 0;
@@ -190,9 +195,8 @@ fn parent(kills: u64, seconds: u64, seed: u64) -> Counts {
         if answer.refusal > 0 || answer.area == input.area {
             continue;
         }
-        if !change(&file, call, seed, k, &mut draw, &mut counts) {
+        if !change(&file, (call, seed, k), order, &mut draw, &mut counts) {
             counts.else_read += 1;
-            eprintln!("call {call}, seed {seed}, input {k}: something else was read or left");
         }
     }
     let _ = fs::remove_file(&file);
@@ -203,10 +207,11 @@ fn main() {
     let arguments: Vec<String> = std::env::args().skip(1).collect();
     let number = |i: usize, or: u64| arguments.get(i).map_or(or, |a| a.parse().expect("a number"));
     if arguments.first().is_some_and(|a| a == "child") {
-        child(Path::new(&arguments[1]), number(2, 1), number(3, 1), number(4, 0));
+        child(Path::new(&arguments[1]), number(2, 1), number(3, 1), number(4, 0), arguments[5] == "backwards");
         return;
     }
-    let c = parent(number(0, 3_000), number(1, 60), number(2, 1));
+    let order = arguments.get(3).map_or("forwards", |a| a);
+    let c = parent(number(0, 3_000), number(1, 60), number(2, 1), order);
     println!(
         "changes {}: cut before the first store {}, in the middle {}, after the last {}",
         c.changes, c.first, c.middle, c.last

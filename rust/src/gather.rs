@@ -12,7 +12,8 @@ pub struct Gathered {
 }
 
 impl Gathered {
-    /// The gathered bytes, in the window whose first byte has the address `base`, as both were given to `gather`.
+    /// The gathered bytes, in the window whose first byte has the address `base`, as both were given to `gather`. Panics where
+    /// that part isn't in the window.
     pub fn part<'a>(&self, window: &'a [u8], base: u64) -> &'a [u8] {
         let start = (self.address - base) as usize;
         &window[start..start + self.total as usize]

@@ -5,7 +5,8 @@
 //! is proved of nothing: that the declarations in `raw` say what the library has, that the compilers are right, and what this
 //! package adds, which is only the change from numbers to types. Its tests compare all of it with a second implementation.
 //!
-//! Nothing here allocates, keeps memory or panics on any input. A refusal alters nothing that was lent.
+//! Nothing here allocates or keeps memory, and a refusal alters nothing that was lent. No input makes an entry panic; only
+//! `Store::apply` and `Gathered::part` do, where they are given another area or window than the one that their answer is about.
 //!
 //! ```
 //! use meanderpeg::{Session, STORE_NUMBERS};
