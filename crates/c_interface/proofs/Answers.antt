@@ -1,6 +1,6 @@
 -- An entry's result, given on by the functions of crate `c_session`: once for start-up, for repair, for the calls and for End. Assumes nothing.
 use Prim.Native.Nat.{ℕ}
-use mathlib.Core.Path.{_≡_, refl}
+use mathlib.Core.Path.{_≡_}
 use mathlib.Core.List.{List}
 use Rattle.session.specs.Outcome.{Outcome}
 use Rattle.session.specs.Calls.{Result}

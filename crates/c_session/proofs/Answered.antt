@@ -1,7 +1,7 @@
 -- What an answer's verdict gives, whatever stands behind the references: a refusal its number and the old values, an accepted answer 0 and the
 -- next ones. Assumes nothing.
 use Prim.Native.Nat.{ℕ}
-use mathlib.Core.Path.{_≡_, refl, ap}
+use mathlib.Core.Path.{_≡_}
 use Rattle.refusals.specs.Number.{numberOf}
 use Rattle.refusals.specs.declared.Refusal.{Refusal}
 use Rattle.session.specs.declared.Verdict.{Verdict}

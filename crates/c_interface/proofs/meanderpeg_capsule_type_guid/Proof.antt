@@ -1,5 +1,4 @@
 -- `meanderpeg_capsule_type_guid` meets its contract. Assumes nothing.
-use mathlib.Core.Path.{sym, _∙_}
 use borrow.Author.Tests.{eq-eqb, ne-eqb}
 use Rattle.c_interface.specs.Capsule.{shownGuid}
 use borrow.Author.Needs.{needs}

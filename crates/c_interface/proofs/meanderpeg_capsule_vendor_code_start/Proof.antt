@@ -1,12 +1,9 @@
 -- `meanderpeg_capsule_vendor_code_start` meets its contract. Assumes nothing.
-use mathlib.Core.Path.{_≡_, refl, sym, ap, _∙_}
+use mathlib.Core.Path.{_≡_, refl, sym, _∙_}
 use Rattle.capsule_check.specs.Item.{located}
-use Rattle.capsule_check.specs.declared.Item.the-variants.{Driver, Payload}
-use Prim.Native.Nat.{ℕ, _+_}
+use Rattle.capsule_check.specs.declared.Item.the-variants.{Payload}
 use native.Mathlib.Omega.{arith}
-use mathlib.Core.List.{List}
 use Rattle.capsule_rules.specs.Body.{part}
-use Rattle.capsule_check.proofs.Places.{payload-inside}
 use Rattle.capsule.proofs.Parts.{Opened, opened}
 use borrow.Author.Needs.{needs}
 use Rattle.c_interface.proofs.meanderpeg_capsule_vendor_code_start.Statement.{statement}

@@ -1,5 +1,4 @@
 -- `give_kind` meets its contract. Assumes nothing.
-use mathlib.Core.Path.{_≡_, refl}
 use borrow.Author.Needs.{needs}
 use Rattle.c_session.proofs.Answered.{refused-keeps, accepted-gives}
 use Rattle.c_session.proofs.give_kind.Statement.{statement}

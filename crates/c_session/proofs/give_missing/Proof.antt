@@ -1,7 +1,5 @@
 -- `give_missing` meets its contract. Assumes nothing.
-use mathlib.Core.Path.{_≡_, refl}
 use borrow.Author.Needs.{needs}
-use Rattle.c_session.proofs.Answered.{refused-keeps, accepted-gives}
 use Rattle.c_session.proofs.give_missing.Statement.{statement}
 use Rattle.c_session.proofs.give_missing.Tie as tie
 

@@ -1,5 +1,5 @@
 -- `give_pairs` meets its contract. Assumes nothing.
-use mathlib.Core.Path.{_≡_, refl}
+use mathlib.Core.Path.{refl}
 use borrow.Author.Needs.{needs}
 use Rattle.c_session.proofs.Answered.{refused-keeps, accepted-gives}
 use Rattle.c_session.proofs.give_pairs.Statement.{statement}
