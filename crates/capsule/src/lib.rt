@@ -1,6 +1,6 @@
 // The items of a capsule: their parts, and what is shown of them.
 // Every entry checks the whole capsule first and has no condition: a refused one answers the empty part at the capsule's
-// start, or zeros, and `refusal` says which refusal it was, or emptyAtStart, for the same capsule and item number.
+// start, or zeros, and `refusal` says which refusal it was, or none, for the same capsule and item number.
 // Items are numbered from 0 in list order, drivers first.
 ghost use mathlib.Core.Path.{_≡_};
 ghost use mathlib.Core.Bool.{true};
@@ -12,7 +12,7 @@ ghost use Rattle.capsule_check.specs.Item.{located};
 ghost use Rattle.capsule.specs.Parts.{IsPart, range, emptyAtStart, itemPart, imagePart, vendorCodePart};
 ghost use Rattle.capsule.specs.Shown.{typeGuidOf, imageIndexOf, hardwareInstanceOf};
 
-// The sister of all entries that take an item number: the refusal, 10 to 16, or emptyAtStart.
+// The sister of all entries that take an item number: the refusal, 10 to 16, or none.
 pub fn refusal(s: &[u8], k: usize) -> capsule_check::Verdict
     ensures { λ r. ⌜ verdictNumber r ≡ refusalNumber (now (s .entry)) k ⌝ }
 {
@@ -140,7 +140,7 @@ fn index_of(p: &[u8]) -> u8
     p[20]
 }
 
-// The hardware instance of payload item k; version 1 has emptyAtStart and shows 0.
+// The hardware instance of payload item k; version 1 has none and shows 0.
 pub fn hardware_instance(s: &[u8], k: usize) -> u64
     ensures { λ r. ⌜ r ≡ hardwareInstanceOf (now (s .entry)) (located (now (s .entry)) k) ⌝ }
 {
