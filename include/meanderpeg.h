@@ -1,16 +1,21 @@
 /* Meanderpeg for C. Link the archive that `rt staticlib c_interface` writes.
  *
- * Every function answers on every input; none keeps memory, allocates, or reads or writes anything but what is lent to it.
- * What each does is proved for all inputs (crates/c_interface). Words in quotes are those of document 01.
+ * What each function answers, and every byte and number lent as it is at return, is proved for all inputs (crates/c_interface). By
+ * the language, and not by a clause: every function ends, none keeps memory or allocates, and none touches anything but what is lent
+ * to it. This header is written by hand; c/run calls every function in it. Words in quotes are those of document 01.
  *
  * What a caller must see to, since no proof reaches it:
- * - A pointer and the length behind it describe memory that is there: `length` bytes, or `length` numbers of 32 bits for stores.
- *   A slice of length 0 still wants a pointer that is not null.
+ * - Every pointer is there and not null, also where its number does not count and where a length is 0. A pointer and the length
+ *   behind it describe memory that is there and has been written once: `length` bytes, or `length` numbers of 32 bits for stores.
  * - What is lent for writing (a pointer without const) shares no byte with anything else lent to the same call, and nobody else
- *   writes what is lent meanwhile. Numbers are aligned as their types ask.
+ *   writes what is lent meanwhile. Numbers are aligned as their types ask. A capsule stays as it is from the first call on it until
+ *   its parts have been used.
+ * - Each store listed is done as one aligned write of 32 bits that lands whole, and before the next one starts; all are done before
+ *   the next session is used. Byte by byte, or through a cache that writes back in another order, a power cut can leave anything.
+ * - There is enough stack: gathering has an array of 2 KiB, and no function calls itself deeply; no proof bounds it.
  *
- * Functions that answer a uint32_t of type `enum meanderpeg_refusal` answer 0 for accepted, else the refusal's number. A refusal
- * alters nothing that was lent, but that End tells with 27 how many images are missing. */
+ * Every function that returns a uint32_t returns 0 for accepted, else a number of `enum meanderpeg_refusal`; a refusal alters nothing
+ * that was lent, but that End tells with 27 how many images are missing. The archive is for x86-64. */
 #ifndef MEANDERPEG_H
 #define MEANDERPEG_H
 
@@ -28,8 +33,8 @@ enum meanderpeg_refusal {
     MEANDERPEG_WINDOW_END = 1,         /* "B + N above 2^64" */
     MEANDERPEG_DESCRIPTOR_COUNT = 2,   /* "257th descriptor" */
     MEANDERPEG_DESCRIPTOR_ADDRESS = 3, /* no multiple of 8, or not all 16 bytes in the window */
-    MEANDERPEG_BLOCK_OUTSIDE = 4,      /* "A block must lie wholly in the window" */
-    MEANDERPEG_TOTAL_LENGTH = 5,       /* "at most 16,777,216" */
+    MEANDERPEG_BLOCK_OUTSIDE = 4,      /* a block not wholly in the window */
+    MEANDERPEG_TOTAL_LENGTH = 5,       /* lengths above 16,777,216 in all */
     MEANDERPEG_TOTAL_ZERO = 6,         /* "total 0" */
     MEANDERPEG_NO_PLACE = 7,           /* "no free place" */
     /* capsules */
@@ -72,19 +77,20 @@ enum {
 /* ---- The window and the scattered list ---- */
 
 /* Reads the list of descriptors that starts at address `first` in the window, whose first byte has address `base`, and copies its
- * blocks together. "The place chosen is the lowest start whose range, as long as the total, lies in the window and shares no byte
+ * blocks together in list order. "The place chosen is the lowest start whose range, as long as the total, lies in the window and shares no byte
  * with any block or any descriptor read. Bytes outside it stay." Sets the place's address and the total. Refusals 1 to 7. */
 uint32_t meanderpeg_gather(uint8_t *window, size_t window_length, uint64_t base, uint64_t first,
                            uint64_t *address, uint64_t *total);
 
 /* ---- The capsule ----
  * "Every item is checked before any is handed out. Items are numbered from 0 in list order", drivers first. Each function here
- * checks the whole capsule anew; its cost does not grow with the images' size. */
+ * checks the whole capsule anew; as measured, its cost does not grow with the images' size. */
 
 /* "a sister entry gives the refusal number, or none, for the same input": 10 to 16, or 0. */
 uint32_t meanderpeg_capsule_refusal(const uint8_t *capsule, size_t capsule_length, size_t item);
 
-/* How many drivers and payloads the capsule has; 0 with a refusal of the capsule (10 to 15). */
+/* How many drivers and payloads the capsule has; 0 with a refusal of the capsule (10 to 15), which meanderpeg_capsule_refusal tells
+ * for any item: 16 or 0 means a faultless capsule. */
 size_t meanderpeg_capsule_drivers(const uint8_t *capsule, size_t capsule_length);
 size_t meanderpeg_capsule_payloads(const uint8_t *capsule, size_t capsule_length);
 
@@ -100,7 +106,7 @@ size_t meanderpeg_capsule_vendor_code_start(const uint8_t *capsule, size_t capsu
 size_t meanderpeg_capsule_vendor_code_length(const uint8_t *capsule, size_t capsule_length, size_t item);
 
 /* "Type GUID, index and instance are shown too: version 1 shows instance 0, a driver or a refusal all zeros." The type GUID goes
- * into 16 lent bytes, where a refusal, which is the answer, leaves them as they were; a driver has zeros there. */
+ * into 16 lent bytes; a driver has zeros there. A refusal, which is the answer, leaves them as they were: "no byte altered". */
 uint32_t meanderpeg_capsule_type_guid(const uint8_t *capsule, size_t capsule_length, size_t item,
                                       uint8_t guid[MEANDERPEG_GUID_BYTES]);
 uint8_t meanderpeg_capsule_image_index(const uint8_t *capsule, size_t capsule_length, size_t item);
@@ -113,11 +119,12 @@ uint64_t meanderpeg_capsule_hardware_instance(const uint8_t *capsule, size_t cap
 uint32_t meanderpeg_soundness(const uint8_t *area, size_t area_length, uint32_t *copies);
 
 /* The bench sheet's text at the front of `text`; answers how many bytes it has, and every byte past it stays. A refused area has
- * a sheet too: `refused`, tab, number. A slice below 4,096 bytes stays whole, and the answer is 0, which no sheet has. */
+ * a sheet too: `refused`, tab, number, line feed. No zero byte ends the text. A slice below 4,096 bytes stays whole, whatever the area,
+ * and the answer is 0, which no sheet has. */
 size_t meanderpeg_sheet(const uint8_t *area, size_t area_length, uint8_t *text, size_t text_length);
 
 /* "Start-up is given the bank that booted: Fallback if it isn't the active one, else Regular if the active bank is 252, else
- * Trial." Sets the session's kind; its bank and set are 0. Refusals 20, 21, 28. */
+ * Trial." Sets the session's kind; bank and set count in Staging alone, which start-up never answers. Refusals 20, 21, 28. */
 uint32_t meanderpeg_start_up(const uint8_t *area, size_t area_length, uint32_t booted, uint32_t *kind);
 
 /* ---- Stores ----
