@@ -1,6 +1,3 @@
--- Laws of texts and of writing them, for the proofs here.
-pub mod Digits
-pub mod Writing
-pub mod Lines
+-- Laws of the sheet, for the proofs here.
 pub mod Known
 pub mod Whole

@@ -17,11 +17,11 @@ use Rattle.record.specs.Layout.{areaSize, active, previous, size, state, bankCo
 use Rattle.record.specs.Rules.{sound}
 use Rattle.copies.specs.Copies.{sourceOf, readFrom}
 use Rattle.copies.specs.declared.Source.the-variants.{Copy0, Copy1, Neither}
-use Rattle.sheet.specs.Text.{ascii, decimal, numbers, line, ascending}
+use Rattle.text.specs.Text.{ascii, decimal, numbers, line, ascending}
 use Rattle.sheet.specs.Sheet.{bankLine, imageLine, imageLines, headLines, recordLines, refusedLine, sheetFrom, sheetOf, sheetLimit, withText, sheetIn}
-use Rattle.sheet.specs.Wrote.{Room, Wrote}
-use Rattle.sheet.proofs.Digits.{one-digit, two-digits, three-digits, four-digits}
-use Rattle.sheet.proofs.Lines.{ascending-short}
+use Rattle.text.specs.Wrote.{Room, Wrote}
+use Rattle.text.proofs.Digits.{one-digit, two-digits, three-digits, four-digits}
+use Rattle.text.proofs.Lines.{ascending-short}
 use Rattle.sheet.proofs.Known.{few-banks, few-images, small-size, small-active, small-previous, accepted-bit, state-byte}
 
 -- how long a line is

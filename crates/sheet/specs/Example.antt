@@ -13,7 +13,7 @@ use Rattle.record.specs.Every.{below}
 use Rattle.record.specs.Layout.{areaSize, recordOf}
 use Rattle.record.specs.Rules as rule
 use Rattle.copies.specs.Copies.{sourceOf, readFrom}
-use Rattle.sheet.specs.Text.{ascii, digits, decimal, numbers, line, ascending}
+use Rattle.text.specs.Text.{ascii, digits, decimal, numbers, line, ascending}
 use Rattle.sheet.specs.Sheet.{bankLine, imageLine, imageLines, headLines, recordLines, sheetFrom, sheetOf}
 
 -- the record's 120 bytes, every GUID zero

@@ -13,7 +13,7 @@ use Rattle.record.specs.Layout.{areaSize, active, previous, size, state, bankCo
 use Rattle.copies.specs.Copies.{sourceOf, readFrom}
 use Rattle.copies.specs.declared.Source.{Source}
 use Rattle.copies.specs.declared.Source.the-variants.{Copy0, Copy1, Neither}
-use Rattle.sheet.specs.Text.{ascii, line, ascending}
+use Rattle.text.specs.Text.{ascii, line, ascending}
 
 -- a line for each bank that the record has: bank, state
 unfoldable pub bankLine : List ℕ → ℕ → List ℕ

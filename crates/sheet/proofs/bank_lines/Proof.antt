@@ -6,10 +6,10 @@ use lib.ListN.{length}
 use borrow.Author.Needs.{needs}
 use Rattle.sheet.proofs.Known.{header, few-banks}
 use Rattle.record.specs.Layout.{bankCount}
-use Rattle.sheet.specs.Text.{ascending}
+use Rattle.text.specs.Text.{ascending}
 use Rattle.sheet.specs.Sheet.{bankLine}
-use Rattle.sheet.specs.Wrote.{Wrote}
-use Rattle.sheet.proofs.Lines.{lines-none, lines-room, lines-more}
+use Rattle.text.specs.Wrote.{Wrote}
+use Rattle.text.proofs.Lines.{lines-none, lines-room, lines-more}
 use Rattle.sheet.proofs.bank_lines.Statement.{statement}
 use Rattle.sheet.proofs.bank_lines.Tie as tie
 

@@ -5,10 +5,10 @@ use native.Mathlib.Omega.{arith}
 use borrow.Author.Needs.{needs}
 use Rattle.sheet.proofs.Known.{header}
 use Rattle.record.specs.Layout.{active, previous, size}
-use Rattle.sheet.specs.Text.{ascii, line}
+use Rattle.text.specs.Text.{ascii, line}
 use Rattle.sheet.specs.Sheet.{headLines}
-use Rattle.sheet.specs.Wrote.{Room, Wrote}
-use Rattle.sheet.proofs.Writing.{wrote-then, room-first, room-then}
+use Rattle.text.specs.Wrote.{Room, Wrote}
+use Rattle.text.proofs.Writing.{wrote-then, room-first, room-then}
 use Rattle.sheet.proofs.head_lines.Statement.{statement}
 use Rattle.sheet.proofs.head_lines.Tie as tie
 

@@ -3,10 +3,10 @@ use Prim.Native.Nat.{ℕ}
 use mathlib.Core.List.{List, _++_}
 use borrow.Author.Needs.{needs}
 use Rattle.record.specs.Layout.{bankCount, imageCount}
-use Rattle.sheet.specs.Text.{ascending}
+use Rattle.text.specs.Text.{ascending}
 use Rattle.sheet.specs.Sheet.{bankLine, imageLines, headLines, recordLines}
-use Rattle.sheet.specs.Wrote.{Room}
-use Rattle.sheet.proofs.Writing.{wrote-then, room-first, room-then}
+use Rattle.text.specs.Wrote.{Room}
+use Rattle.text.proofs.Writing.{wrote-then, room-first, room-then}
 use Rattle.sheet.proofs.record_lines.Statement.{statement}
 use Rattle.sheet.proofs.record_lines.Tie as tie
 

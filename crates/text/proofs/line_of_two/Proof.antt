@@ -1,11 +1,11 @@
 -- `line_of_two` meets its contract. Assumes nothing.
 use mathlib.Core.List.{[], _∷_}
 use borrow.Author.Needs.{needs}
-use Rattle.sheet.specs.Text.{tab, decimal, numbers, line}
-use Rattle.sheet.specs.Wrote.{Room}
-use Rattle.sheet.proofs.Writing.{wrote-then, room-first, room-then}
-use Rattle.sheet.proofs.line_of_two.Statement.{statement}
-use Rattle.sheet.proofs.line_of_two.Tie as tie
+use Rattle.text.specs.Text.{tab, decimal, numbers, line}
+use Rattle.text.specs.Wrote.{Room}
+use Rattle.text.proofs.Writing.{wrote-then, room-first, room-then}
+use Rattle.text.proofs.line_of_two.Statement.{statement}
+use Rattle.text.proofs.line_of_two.Tie as tie
 
 put-word-requires : tie.Need-put-word-requires
 unfolding line

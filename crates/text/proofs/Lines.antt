@@ -8,9 +8,9 @@ use native.Mathlib.Numerals.{add-one}
 use native.Mathlib.Omega.{arith}
 use lib.ListN.{length, length-append}
 use Rattle.fields.proofs.Tests.{le-or-lt}
-use Rattle.sheet.specs.Text.{ascending}
-use Rattle.sheet.specs.Wrote.{Room, Wrote}
-use Rattle.sheet.proofs.Writing.{wrote-none, wrote-then, room-then}
+use Rattle.text.specs.Text.{ascending}
+use Rattle.text.specs.Wrote.{Room, Wrote}
+use Rattle.text.proofs.Writing.{wrote-none, wrote-then, room-then}
 
 module _ (text : ℕ → List ℕ) where
   ascending-more : (b : ℕ) → ascending (b + 1) text ≡ ascending b text ++ text b

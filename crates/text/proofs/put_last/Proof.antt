@@ -1,10 +1,10 @@
 -- `put_last` meets its contract. Assumes nothing.
 use mathlib.Core.List.{[], _∷_}
 use borrow.Author.Needs.{needs}
-use Rattle.sheet.specs.Text.{tab, lineFeed, decimal, numbers}
-use Rattle.sheet.proofs.Writing.{wrote-then, room-first, room-then}
-use Rattle.sheet.proofs.put_last.Statement.{statement}
-use Rattle.sheet.proofs.put_last.Tie as tie
+use Rattle.text.specs.Text.{tab, lineFeed, decimal, numbers}
+use Rattle.text.proofs.Writing.{wrote-then, room-first, room-then}
+use Rattle.text.proofs.put_last.Statement.{statement}
+use Rattle.text.proofs.put_last.Tie as tie
 
 put-number-requires : tie.Need-put-number-requires
 unfolding numbers

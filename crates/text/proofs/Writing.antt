@@ -9,7 +9,7 @@ use lib.ListN.{length, take, set, getD, length-set, length-append, length-take, 
 use lib.Seq.{take-suc, take-all}
 use Rattle.fields.specs.Number.{put}
 use Rattle.fields.proofs.Put.{put-sets, put-more}
-use Rattle.sheet.specs.Wrote.{Room, Wrote}
+use Rattle.text.specs.Wrote.{Room, Wrote}
 
 pub wrote-none : (k : ℕ) (out : List ℕ) → Wrote k k [] out out
 unfolding put

@@ -4,10 +4,10 @@ use mathlib.Core.Path.{_≡_, refl}
 use native.Mathlib.Omega.{arith}
 use lib.ListN.{length, take}
 use borrow.Author.Needs.{needs}
-use Rattle.sheet.specs.Wrote.{Wrote}
-use Rattle.sheet.proofs.Writing.{wrote-start, wrote-next, wrote-whole}
-use Rattle.sheet.proofs.put_word.Statement.{statement}
-use Rattle.sheet.proofs.put_word.Tie as tie
+use Rattle.text.specs.Wrote.{Wrote}
+use Rattle.text.proofs.Writing.{wrote-start, wrote-next, wrote-whole}
+use Rattle.text.proofs.put_word.Statement.{statement}
+use Rattle.text.proofs.put_word.Tie as tie
 
 abbrev Inv-loop : tie.InvT-loop
 Inv-loop out₀ k word i₀ out i = (i ≤ length word) × (length out ≡ length out₀) × Wrote k (k + i) (take i word) out₀ out

@@ -1,9 +1,9 @@
 -- `put_byte` meets its contract. Assumes nothing.
 use native.Mathlib.Omega.{arith}
 use borrow.Author.Needs.{needs}
-use Rattle.sheet.proofs.Writing.{wrote-one}
-use Rattle.sheet.proofs.put_byte.Statement.{statement}
-use Rattle.sheet.proofs.put_byte.Tie as tie
+use Rattle.text.proofs.Writing.{wrote-one}
+use Rattle.text.proofs.put_byte.Statement.{statement}
+use Rattle.text.proofs.put_byte.Tie as tie
 
 slice-write-out : tie.Need-slice-write-out
 slice-write-out c = search needs

@@ -1,10 +1,10 @@
 -- `line_of_one` meets its contract. Assumes nothing.
 use mathlib.Core.List.{[], _∷_}
 use borrow.Author.Needs.{needs}
-use Rattle.sheet.specs.Text.{numbers, line}
-use Rattle.sheet.proofs.Writing.{wrote-then, room-first, room-then}
-use Rattle.sheet.proofs.line_of_one.Statement.{statement}
-use Rattle.sheet.proofs.line_of_one.Tie as tie
+use Rattle.text.specs.Text.{numbers, line}
+use Rattle.text.proofs.Writing.{wrote-then, room-first, room-then}
+use Rattle.text.proofs.line_of_one.Statement.{statement}
+use Rattle.text.proofs.line_of_one.Tie as tie
 
 put-word-requires : tie.Need-put-word-requires
 unfolding line

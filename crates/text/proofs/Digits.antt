@@ -7,7 +7,7 @@ use native.Mathlib.Omega.{arith}
 use borrow.Author.Tests.{ltb-true, ltb-false, lt-ltb, le-ltb}
 use lib.Dec.{ltb}
 use lib.ListN.{length, length-append}
-use Rattle.sheet.specs.Text.{digitOf, digits, decimal}
+use Rattle.text.specs.Text.{digitOf, digits, decimal}
 
 pub decimal-low : (n : ℕ) → n < 10 → decimal n ≡ digitOf n ∷ []
 unfolding decimal digits

@@ -7,16 +7,16 @@ use lib.ListN.{length}
 use borrow.Author.Needs.{needs}
 use borrow.Fn.Kinds.{In}
 use borrow.Fn.PlainCycle.{Measures, is, falls, and}
-use Rattle.sheet.specs.Text.{digitOf, decimal}
-use Rattle.sheet.proofs.Digits.{decimal-low, decimal-more}
-use Rattle.sheet.proofs.Writing.{wrote-then, room-first, room-then}
-use Rattle.sheet.proofs.put_decimal.Reads as put-decimal
-use Rattle.sheet.proofs.put_decimal.Kinds as put-decimal-kinds
-use Rattle.sheet.proofs.+put_decimal.Lts-put_decimal as put-decimal-lts
-use Rattle.sheet.proofs.digit.Reads as digit-reads
-use Rattle.sheet.proofs.put_byte.Reads as put-byte-reads
-use Rattle.sheet.proofs.+put_decimal.{statement}
-use Rattle.sheet.proofs.+put_decimal.Tie.{close}
+use Rattle.text.specs.Text.{digitOf, decimal}
+use Rattle.text.proofs.Digits.{decimal-low, decimal-more}
+use Rattle.text.proofs.Writing.{wrote-then, room-first, room-then}
+use Rattle.text.proofs.put_decimal.Reads as put-decimal
+use Rattle.text.proofs.put_decimal.Kinds as put-decimal-kinds
+use Rattle.text.proofs.+put_decimal.Lts-put_decimal as put-decimal-lts
+use Rattle.text.proofs.digit.Reads as digit-reads
+use Rattle.text.proofs.put_byte.Reads as put-byte-reads
+use Rattle.text.proofs.+put_decimal.{statement}
+use Rattle.text.proofs.+put_decimal.Tie.{close}
 
 abbrev μ-put-decimal : Measures 1 put-decimal-kinds.ps ℕ
 μ-put-decimal κs a = a .1 .1 .0

@@ -1,10 +1,10 @@
 -- `put_number` meets its contract. Assumes nothing.
 use mathlib.Core.List.{[], _∷_}
 use borrow.Author.Needs.{needs}
-use Rattle.sheet.specs.Text.{tab, decimal}
-use Rattle.sheet.proofs.Writing.{wrote-then}
-use Rattle.sheet.proofs.put_number.Statement.{statement}
-use Rattle.sheet.proofs.put_number.Tie as tie
+use Rattle.text.specs.Text.{tab, decimal}
+use Rattle.text.proofs.Writing.{wrote-then}
+use Rattle.text.proofs.put_number.Statement.{statement}
+use Rattle.text.proofs.put_number.Tie as tie
 
 put-byte-requires : tie.Need-put-byte-requires
 put-byte-requires c κs = search needs
