@@ -1,3 +1,2 @@
--- Laws of the sheet, for the proofs here.
-pub mod Known
+-- Laws of the sheet, for the proofs here and in the crates above.
 pub mod Whole

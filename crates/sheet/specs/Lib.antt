@@ -1,3 +1,2 @@
 -- The bench sheet. Assumes nothing.
 pub mod Sheet
-pub mod Example

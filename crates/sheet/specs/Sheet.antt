@@ -1,6 +1,5 @@
--- The bench sheet of an area (document 01, "The bench sheet"), as bytes. a is the bytes of the area, r those of the record read. "Record line: copy,
--- size. Image lines: image, bank, accepted; images ascending, banks within. Refused: `refused`, tab, number." The other lines are those of the
--- page's example. The sheet is no call: it needs one sound copy, so 22 is not for it, and a refused area has a sheet too. Assumes nothing.
+-- The bench sheet of an area (document 01, "The bench sheet"), as bytes. a is the bytes of the area. "Refused: `refused`, tab, number." The sheet is
+-- no call: it needs one sound copy, so 22 is not for it, and a refused area has a sheet too. Assumes nothing.
 use Prim.Native.Nat.{ℕ}
 use mathlib.Core.Bool.{cond}
 use mathlib.Core.List.{List, [], _∷_, _++_}
@@ -9,32 +8,12 @@ use lib.ListN.{length, drop}
 use Rattle.refusals.specs.Number.{numberOf}
 use Rattle.refusals.specs.declared.Refusal.{Refusal}
 use Rattle.refusals.specs.declared.Refusal.the-variants.{AreaLength, NoSoundCopy}
-use Rattle.record.specs.Layout.{areaSize, active, previous, size, state, bankCount, imageCount, accepted}
+use Rattle.record.specs.Layout.{areaSize}
 use Rattle.copies.specs.Copies.{sourceOf, readFrom}
 use Rattle.copies.specs.declared.Source.{Source}
 use Rattle.copies.specs.declared.Source.the-variants.{Copy0, Copy1, Neither}
-use Rattle.text.specs.Text.{ascii, line, ascending}
-
--- a line for each bank that the record has: bank, state
-unfoldable pub bankLine : List ℕ → ℕ → List ℕ
-bankLine r b = line (ascii "bank") (b ∷ state r b ∷ [])
-
--- "Image lines: image, bank, accepted"
-unfoldable pub imageLine : List ℕ → ℕ → ℕ → List ℕ
-imageLine r i b = line (ascii "image") (i ∷ b ∷ accepted r i b ∷ [])
-
--- "banks within"
-unfoldable pub imageLines : List ℕ → ℕ → List ℕ
-imageLines r i = ascending (bankCount r) (imageLine r i)
-
--- the first three lines; "Record line: copy, size."
-unfoldable pub headLines : ℕ → List ℕ → List ℕ
-headLines copy r =
-    line (ascii "record") (copy ∷ size r ∷ []) ++ (line (ascii "active") (active r ∷ []) ++ line (ascii "previous") (previous r ∷ []))
-
--- then the banks, then the images; "images ascending"
-unfoldable pub recordLines : ℕ → List ℕ → List ℕ
-recordLines copy r = headLines copy r ++ (ascending (bankCount r) (bankLine r) ++ ascending (imageCount r) (imageLines r))
+use Rattle.text.specs.Text.{ascii, line}
+use Rattle.sheet_lines.specs.Lines.{recordLines}
 
 -- "Refused: `refused`, tab, number."
 unfoldable pub refusedLine : Refusal → List ℕ

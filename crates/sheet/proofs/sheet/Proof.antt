@@ -6,8 +6,10 @@ use borrow.Author.Tests.{lt-leb}
 use Rattle.refusals.specs.declared.Refusal.the-variants.{AreaLength, NoSoundCopy}
 use Rattle.record.specs.Layout.{recordOf, copy0, copy1}
 use Rattle.copies.proofs.Reading.{from-copy0, from-copy1}
-use Rattle.sheet.specs.Sheet.{recordLines, refusedLine, sheetIn}
-use Rattle.sheet.proofs.Whole.{refused-room, record-room, sheet-is, sheet-length, sheet-copy0, sheet-copy1, sheet-neither}
+use Rattle.sheet_lines.specs.Lines.{recordLines}
+use Rattle.sheet_lines.proofs.Lengths.{record-room}
+use Rattle.sheet.specs.Sheet.{refusedLine, sheetIn}
+use Rattle.sheet.proofs.Whole.{refused-room, sheet-is, sheet-length, sheet-copy0, sheet-copy1, sheet-neither}
 use Rattle.sheet.proofs.sheet.Statement.{statement}
 use Rattle.sheet.proofs.sheet.Tie as tie
 

@@ -4,14 +4,14 @@ use mathlib.Core.Path.{_≡_, refl}
 use native.Mathlib.Omega.{arith}
 use lib.ListN.{length}
 use borrow.Author.Needs.{needs}
-use Rattle.sheet.proofs.Known.{header, few-images}
+use Rattle.sheet_lines.proofs.Known.{header, few-images}
 use Rattle.record.specs.Layout.{imageCount}
 use Rattle.text.specs.Text.{ascending}
-use Rattle.sheet.specs.Sheet.{imageLines}
+use Rattle.sheet_lines.specs.Lines.{imageLines}
 use Rattle.text.specs.Wrote.{Wrote}
 use Rattle.text.proofs.Lines.{lines-none, lines-room, lines-more}
-use Rattle.sheet.proofs.all_images.Statement.{statement}
-use Rattle.sheet.proofs.all_images.Tie as tie
+use Rattle.sheet_lines.proofs.all_images.Statement.{statement}
+use Rattle.sheet_lines.proofs.all_images.Tie as tie
 
 abbrev Inv-loop : tie.InvT-loop
 Inv-loop out₀ k r images n₀ i₀ out n i = (images ≡ imageCount r) × (i ≤ images) × (length out ≡ length out₀) × Wrote k n (ascending i (imageLines r)) out₀ out

@@ -2,10 +2,10 @@
 use Prim.Native.Nat.{_+_}
 use native.Mathlib.Omega.{arith}
 use borrow.Author.Needs.{needs}
-use Rattle.sheet.proofs.Known.{header, few-banks}
-use Rattle.sheet.specs.Sheet.{bankLine}
-use Rattle.sheet.proofs.bank_line.Statement.{statement}
-use Rattle.sheet.proofs.bank_line.Tie as tie
+use Rattle.sheet_lines.proofs.Known.{header, few-banks}
+use Rattle.sheet_lines.specs.Lines.{bankLine}
+use Rattle.sheet_lines.proofs.bank_line.Statement.{statement}
+use Rattle.sheet_lines.proofs.bank_line.Tie as tie
 
 add-at : tie.Need-add-at
 add-at c = omega (arith, few-banks (c .before .before .args .r .now) (c .before .before .pre .0))

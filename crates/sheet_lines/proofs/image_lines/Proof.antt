@@ -4,14 +4,14 @@ use mathlib.Core.Path.{_≡_, refl}
 use native.Mathlib.Omega.{arith}
 use lib.ListN.{length}
 use borrow.Author.Needs.{needs}
-use Rattle.sheet.proofs.Known.{header, few-banks}
+use Rattle.sheet_lines.proofs.Known.{header, few-banks}
 use Rattle.record.specs.Layout.{bankCount}
 use Rattle.text.specs.Text.{ascending}
-use Rattle.sheet.specs.Sheet.{imageLine, imageLines}
+use Rattle.sheet_lines.specs.Lines.{imageLine, imageLines}
 use Rattle.text.specs.Wrote.{Wrote}
 use Rattle.text.proofs.Lines.{lines-none, lines-room, lines-more}
-use Rattle.sheet.proofs.image_lines.Statement.{statement}
-use Rattle.sheet.proofs.image_lines.Tie as tie
+use Rattle.sheet_lines.proofs.image_lines.Statement.{statement}
+use Rattle.sheet_lines.proofs.image_lines.Tie as tie
 
 abbrev Inv-loop : tie.InvT-loop
 Inv-loop out₀ k r i banks n₀ b₀ out n b = (banks ≡ bankCount r) × (b ≤ banks) × (length out ≡ length out₀) × Wrote k n (ascending b (imageLine r i)) out₀ out

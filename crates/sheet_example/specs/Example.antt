@@ -14,7 +14,8 @@ use Rattle.record.specs.Layout.{areaSize, recordOf}
 use Rattle.record.specs.Rules as rule
 use Rattle.copies.specs.Copies.{sourceOf, readFrom}
 use Rattle.text.specs.Text.{ascii, digits, decimal, numbers, line, ascending}
-use Rattle.sheet.specs.Sheet.{bankLine, imageLine, imageLines, headLines, recordLines, sheetFrom, sheetOf}
+use Rattle.sheet_lines.specs.Lines.{bankLine, imageLine, imageLines, headLines, recordLines}
+use Rattle.sheet.specs.Sheet.{sheetFrom, sheetOf}
 
 -- the record's 120 bytes, every GUID zero
 abbrev pub exampleRecord : List ℕ

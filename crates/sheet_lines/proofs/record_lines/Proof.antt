@@ -4,11 +4,11 @@ use mathlib.Core.List.{List, _++_}
 use borrow.Author.Needs.{needs}
 use Rattle.record.specs.Layout.{bankCount, imageCount}
 use Rattle.text.specs.Text.{ascending}
-use Rattle.sheet.specs.Sheet.{bankLine, imageLines, headLines, recordLines}
+use Rattle.sheet_lines.specs.Lines.{bankLine, imageLines, headLines, recordLines}
 use Rattle.text.specs.Wrote.{Room}
 use Rattle.text.proofs.Writing.{wrote-then, room-first, room-then}
-use Rattle.sheet.proofs.record_lines.Statement.{statement}
-use Rattle.sheet.proofs.record_lines.Tie as tie
+use Rattle.sheet_lines.proofs.record_lines.Statement.{statement}
+use Rattle.sheet_lines.proofs.record_lines.Tie as tie
 
 -- the lines behind the first three
 abbrev banks : List ℕ → List ℕ

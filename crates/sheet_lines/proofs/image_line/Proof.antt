@@ -3,10 +3,10 @@ use Prim.Native.Nat.{_+_, _*_, _≤_}
 use native.Mathlib.Omega.{arith}
 use lib.ListN.{length}
 use borrow.Author.Needs.{needs}
-use Rattle.sheet.proofs.Known.{header, few-banks, few-images, accepted-in}
-use Rattle.sheet.specs.Sheet.{imageLine}
-use Rattle.sheet.proofs.image_line.Statement.{statement}
-use Rattle.sheet.proofs.image_line.Tie as tie
+use Rattle.sheet_lines.proofs.Known.{header, few-banks, few-images, accepted-in}
+use Rattle.sheet_lines.specs.Lines.{imageLine}
+use Rattle.sheet_lines.proofs.image_line.Statement.{statement}
+use Rattle.sheet_lines.proofs.image_line.Tie as tie
 
 shared-slice-read-entry-at : tie.Need-shared-slice-read-entry-at
 shared-slice-read-entry-at c = let s = c .before .before .before in omega (arith, header (s .args .r .now) (s .pre .0))

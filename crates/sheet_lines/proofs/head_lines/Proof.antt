@@ -3,14 +3,14 @@ use Prim.Native.Nat.{ℕ}
 use mathlib.Core.List.{List, [], _∷_, _++_}
 use native.Mathlib.Omega.{arith}
 use borrow.Author.Needs.{needs}
-use Rattle.sheet.proofs.Known.{header}
+use Rattle.sheet_lines.proofs.Known.{header}
 use Rattle.record.specs.Layout.{active, previous, size}
 use Rattle.text.specs.Text.{ascii, line}
-use Rattle.sheet.specs.Sheet.{headLines}
+use Rattle.sheet_lines.specs.Lines.{headLines}
 use Rattle.text.specs.Wrote.{Room, Wrote}
 use Rattle.text.proofs.Writing.{wrote-then, room-first, room-then}
-use Rattle.sheet.proofs.head_lines.Statement.{statement}
-use Rattle.sheet.proofs.head_lines.Tie as tie
+use Rattle.sheet_lines.proofs.head_lines.Statement.{statement}
+use Rattle.sheet_lines.proofs.head_lines.Tie as tie
 
 -- the three lines
 abbrev recordLine : ℕ → List ℕ → List ℕ

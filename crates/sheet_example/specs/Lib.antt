@@ -1,0 +1,2 @@
+-- Document 01's example of a bench sheet. Assumes nothing.
+pub mod Example

@@ -1,0 +1,3 @@
+-- Laws of the sheet's lines, for the proofs here and the sheet above.
+pub mod Known
+pub mod Lengths
