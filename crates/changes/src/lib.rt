@@ -3,7 +3,7 @@
 use alterations::Alteration;
 use alterations::list_change;
 use copies::COPY;
-use entries::all_accepted;
+use bank_states::all_accepted;
 use fields::read16;
 use fields::read32;
 use fields::same_guid;

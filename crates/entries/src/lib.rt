@@ -1,5 +1,5 @@
-// The rules on a record's image entries and bank states (document 01, "The record": rules 8, 10, 11, 12 and 13). The
-// counts and the length have been tested (`Sized`) before anything here reads an entry.
+// The rules on the words and type GUIDs of a record's image entries (document 01, "The record": rules 8, 10 and 11). The counts and the
+// length have been tested (`Sized`) before anything here reads an entry.
 use fields::read16;
 use fields::read32;
 use fields::same_guid;
@@ -8,10 +8,9 @@ ghost use mathlib.Core.Path.{_≡_};
 ghost use mathlib.Core.Bool.{not};
 ghost use Prim.Native.Nat.{_≤_, _<_};
 ghost use Rattle.fields.specs.Guid.{guid, same};
-ghost use Rattle.fields.specs.Number.{le};
 ghost use Rattle.record.specs.Every.{below};
 ghost use Rattle.record.specs.Layout.{entryAt};
-ghost use Rattle.record.specs.Rules.{reservedRule, acceptedRule, typeGuidsRule, stateAllowed, statesRule, allAccepted, bankConsistent, banksRule};
+ghost use Rattle.record.specs.Rules.{reservedRule, acceptedRule, typeGuidsRule};
 ghost use Rattle.record.specs.Sized.{Sized, bankWords};
 
 // Whether, in each bank of image i, the word at `from` in the bank's entry is at most `limit`.
@@ -99,80 +98,4 @@ pub fn type_guids_rule(r: &[u8], banks: usize, images: usize) -> bool
         i += 1;
     }
     true
-}
-
-// Whether s may be the state of bank b.
-fn state_allowed(banks: usize, b: usize, s: u8) -> bool
-    ensures { λ x. ⌜ x ≡ stateAllowed banks b s ⌝ }
-{
-    if s == 255 {
-        return true;
-    }
-    if banks <= b {
-        return false;
-    }
-    if s == 254 {
-        return true;
-    }
-    s == 252
-}
-
-// Rule 12.
-pub fn states_rule(r: &[u8], banks: usize, images: usize) -> bool
-    requires { ⌜ Sized (now r) banks images ⌝ }
-    ensures { λ x. ⌜ x ≡ statesRule (now (r .entry)) ⌝ }
-{
-    let mut b = 0;
-    while b < 4 {
-        if !state_allowed(banks, b, r[24 + b]) {
-            return false;
-        }
-        b += 1;
-    }
-    true
-}
-
-// Whether every image of bank b is accepted.
-pub fn all_accepted(r: &[u8], banks: usize, images: usize, b: usize) -> bool
-    requires { ⌜ Sized (now r) banks images × (b < banks) ⌝ }
-    ensures { λ x. ⌜ x ≡ allAccepted (now (r .entry)) b ⌝ }
-{
-    let mut i = 0;
-    while i < images {
-        if read32(r, entry_at(banks, i) + 32 + 24 * b + 16) != 1 {
-            return false;
-        }
-        i += 1;
-    }
-    true
-}
-
-// Whether the state of bank b fits what is accepted there.
-fn bank_consistent(r: &[u8], banks: usize, images: usize, b: usize) -> bool
-    requires { ⌜ Sized (now r) banks images × (b < banks) ⌝ }
-    ensures { λ x. ⌜ x ≡ bankConsistent (now (r .entry)) b ⌝ }
-{
-    let s = r[24 + b];
-    if s == 252 {
-        return all_accepted(r, banks, images, b);
-    }
-    if s == 254 {
-        return !all_accepted(r, banks, images, b);
-    }
-    true
-}
-
-// Rule 13, where the active bank exists.
-pub fn banks_rule(r: &[u8], banks: usize, images: usize, active: usize) -> bool
-    requires { ⌜ Sized (now r) banks images × (active < banks) × (active ≡ le 4 (now r) 8) ⌝ }
-    ensures { λ x. ⌜ x ≡ banksRule (now (r .entry)) ⌝ }
-{
-    let mut b = 0;
-    while b < banks {
-        if !bank_consistent(r, banks, images, b) {
-            return false;
-        }
-        b += 1;
-    }
-    r[24 + active] != 255
 }

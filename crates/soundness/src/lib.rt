@@ -1,9 +1,9 @@
 // Whether a copy is sound (document 01, "The record"): the fourteen rules, in their order.
 use crc::crc32;
+use bank_states::banks_rule;
+use bank_states::states_rule;
 use entries::accepted_rule;
-use entries::banks_rule;
 use entries::reserved_rule;
-use entries::states_rule;
 use entries::type_guids_rule;
 use fields::read16;
 use fields::read32;

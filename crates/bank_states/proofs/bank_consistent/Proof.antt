@@ -6,8 +6,8 @@ use borrow.Author.Needs.{needs}
 use Rattle.record.specs.Rules.{bankConsistent}
 use Rattle.record.specs.Sized.{Sized, bankWords}
 use Rattle.record.proofs.Sizes.{bank-in, guid-in, header-in}
-use Rattle.entries.proofs.bank_consistent.Statement.{statement}
-use Rattle.entries.proofs.bank_consistent.Tie as tie
+use Rattle.bank_states.proofs.bank_consistent.Statement.{statement}
+use Rattle.bank_states.proofs.bank_consistent.Tie as tie
 
 add-s : tie.Need-add-s
 add-s c = search needs

@@ -15,8 +15,8 @@ use Rattle.record.proofs.Sizes.{bank-in, guid-in, header-in}
 use Rattle.fields.specs.Number.{le}
 use Rattle.record.specs.Layout.{state, bankCount}
 use Rattle.record.specs.Rules.{stateAllowed, statesRule}
-use Rattle.entries.proofs.states_rule.Statement.{statement}
-use Rattle.entries.proofs.states_rule.Tie as tie
+use Rattle.bank_states.proofs.states_rule.Statement.{statement}
+use Rattle.bank_states.proofs.states_rule.Tie as tie
 
 abbrev test : List ℕ → ℕ → Bool
 test r b = stateAllowed (bankCount r) b (state r b)

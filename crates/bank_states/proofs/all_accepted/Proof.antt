@@ -14,8 +14,8 @@ use Rattle.record.proofs.Sizes.{bank-in, guid-in, header-in}
 use Rattle.fields.specs.Number.{le}
 use Rattle.record.specs.Layout.{accepted, imageCount}
 use Rattle.record.specs.Rules.{allAccepted}
-use Rattle.entries.proofs.all_accepted.Statement.{statement}
-use Rattle.entries.proofs.all_accepted.Tie as tie
+use Rattle.bank_states.proofs.all_accepted.Statement.{statement}
+use Rattle.bank_states.proofs.all_accepted.Tie as tie
 
 abbrev test : List ℕ → ℕ → ℕ → Bool
 test r b i = eqb (accepted r i b) 1

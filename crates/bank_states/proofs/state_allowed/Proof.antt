@@ -5,8 +5,8 @@ use mathlib.Core.Path.{_≡_, refl, sym, ap, _∙_}
 use native.Mathlib.Omega.{arith}
 use borrow.Author.Tests.{le-leb, lt-leb, le-ltb, lt-ltb, eq-eqb, ne-eqb}
 use Rattle.record.specs.Rules.{stateAllowed}
-use Rattle.entries.proofs.state_allowed.Statement.{statement}
-use Rattle.entries.proofs.state_allowed.Tie as tie
+use Rattle.bank_states.proofs.state_allowed.Statement.{statement}
+use Rattle.bank_states.proofs.state_allowed.Tie as tie
 
 always : (t : Bool) → true ≡ cond t true true
 always true = refl

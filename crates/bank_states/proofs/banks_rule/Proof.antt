@@ -16,8 +16,8 @@ use Rattle.record.proofs.Sizes.{bank-in, guid-in, header-in}
 use Rattle.fields.specs.Number.{le}
 use Rattle.record.specs.Layout.{bankCount}
 use Rattle.record.specs.Rules.{bankConsistent, banksRule}
-use Rattle.entries.proofs.banks_rule.Statement.{statement}
-use Rattle.entries.proofs.banks_rule.Tie as tie
+use Rattle.bank_states.proofs.banks_rule.Statement.{statement}
+use Rattle.bank_states.proofs.banks_rule.Tie as tie
 
 abbrev Inv-loop : tie.InvT-loop
 Inv-loop r banks images active b₀ b = (b ≤ banks) × (below b (bankConsistent r) ≡ true)

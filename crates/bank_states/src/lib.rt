@@ -1,0 +1,85 @@
+// The rules on a record's bank states and on what is accepted in each bank (document 01, "The record": rules 12 and 13). The counts and
+// the length have been tested (`Sized`) before anything here reads an entry.
+use fields::read32;
+use record::entry_at;
+ghost use mathlib.Core.Path.{_≡_};
+ghost use Prim.Native.Nat.{_<_};
+ghost use Rattle.fields.specs.Number.{le};
+ghost use Rattle.record.specs.Rules.{stateAllowed, statesRule, allAccepted, bankConsistent, banksRule};
+ghost use Rattle.record.specs.Sized.{Sized};
+
+// Whether s may be the state of bank b.
+fn state_allowed(banks: usize, b: usize, s: u8) -> bool
+    ensures { λ x. ⌜ x ≡ stateAllowed banks b s ⌝ }
+{
+    if s == 255 {
+        return true;
+    }
+    if banks <= b {
+        return false;
+    }
+    if s == 254 {
+        return true;
+    }
+    s == 252
+}
+
+// Rule 12.
+pub fn states_rule(r: &[u8], banks: usize, images: usize) -> bool
+    requires { ⌜ Sized (now r) banks images ⌝ }
+    ensures { λ x. ⌜ x ≡ statesRule (now (r .entry)) ⌝ }
+{
+    let mut b = 0;
+    while b < 4 {
+        if !state_allowed(banks, b, r[24 + b]) {
+            return false;
+        }
+        b += 1;
+    }
+    true
+}
+
+// Whether every image of bank b is accepted.
+pub fn all_accepted(r: &[u8], banks: usize, images: usize, b: usize) -> bool
+    requires { ⌜ Sized (now r) banks images × (b < banks) ⌝ }
+    ensures { λ x. ⌜ x ≡ allAccepted (now (r .entry)) b ⌝ }
+{
+    let mut i = 0;
+    while i < images {
+        if read32(r, entry_at(banks, i) + 32 + 24 * b + 16) != 1 {
+            return false;
+        }
+        i += 1;
+    }
+    true
+}
+
+// Whether the state of bank b fits what is accepted there.
+fn bank_consistent(r: &[u8], banks: usize, images: usize, b: usize) -> bool
+    requires { ⌜ Sized (now r) banks images × (b < banks) ⌝ }
+    ensures { λ x. ⌜ x ≡ bankConsistent (now (r .entry)) b ⌝ }
+{
+    let s = r[24 + b];
+    if s == 252 {
+        return all_accepted(r, banks, images, b);
+    }
+    if s == 254 {
+        return !all_accepted(r, banks, images, b);
+    }
+    true
+}
+
+// Rule 13, where the active bank exists.
+pub fn banks_rule(r: &[u8], banks: usize, images: usize, active: usize) -> bool
+    requires { ⌜ Sized (now r) banks images × (active < banks) × (active ≡ le 4 (now r) 8) ⌝ }
+    ensures { λ x. ⌜ x ≡ banksRule (now (r .entry)) ⌝ }
+{
+    let mut b = 0;
+    while b < banks {
+        if !bank_consistent(r, banks, images, b) {
+            return false;
+        }
+        b += 1;
+    }
+    r[24 + active] != 255
+}
