@@ -9,7 +9,7 @@ use Rattle.capsule_rules.specs.Body.{part}
 use Rattle.capsule_check.specs.Verdict.{refusalNumber}
 use Rattle.capsule_check.specs.Item.{located}
 use Rattle.capsule.specs.Parts.{Range}
-use Rattle.capsule.specs.Shown.{typeGuidOf}
+use Rattle.capsule_values.specs.Shown.{typeGuidOf}
 
 abbrev pub lengthIn : List ℕ → Range → ℕ
 lengthIn s p = length (part s (p .start) (p .end))

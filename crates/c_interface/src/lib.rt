@@ -14,8 +14,8 @@ ghost use Rattle.gather.specs.Gather.{gathered};
 ghost use Rattle.capsule_check.specs.Verdict.{refusalNumber};
 ghost use Rattle.capsule_check.specs.Item.{located};
 ghost use Rattle.capsule.specs.Parts.{itemPart, imagePart, vendorCodePart};
-ghost use Rattle.capsule_check.specs.Count.{driverCount, payloadCount};
-ghost use Rattle.capsule.specs.Shown.{imageIndexOf, hardwareInstanceOf};
+ghost use Rattle.capsule_values.specs.Count.{driverCount, payloadCount};
+ghost use Rattle.capsule_values.specs.Shown.{imageIndexOf, hardwareInstanceOf};
 ghost use Rattle.sheet.specs.Sheet.{sheetIn};
 ghost use Rattle.start_up.specs.StartUp.{startUp};
 ghost use Rattle.repair.specs.Repair.{repaired};
@@ -122,14 +122,14 @@ pub extern "C" fn meanderpeg_capsule_vendor_code_start(s: &[u8], k: usize) -> us
 pub extern "C" fn meanderpeg_capsule_drivers(s: &[u8]) -> usize
     ensures { λ r. ⌜ r ≡ driverCount (now (s .entry)) ⌝ }
 {
-    capsule_check::driver_count(s)
+    capsule_values::driver_count(s)
 }
 
 #[no_mangle]
 pub extern "C" fn meanderpeg_capsule_payloads(s: &[u8]) -> usize
     ensures { λ r. ⌜ r ≡ payloadCount (now (s .entry)) ⌝ }
 {
-    capsule_check::payload_count(s)
+    capsule_values::payload_count(s)
 }
 
 // The type GUID of item k, zeros for a driver. On a refusal the lent bytes stay, since they are the caller's.
@@ -139,7 +139,7 @@ pub extern "C" fn meanderpeg_capsule_type_guid(s: &[u8], k: usize, guid: &mut [u
 {
     let number = capsule::refusal(s, k).number();
     if number == 0 {
-        *guid = capsule::type_guid(s, k);
+        *guid = capsule_values::type_guid(s, k);
     }
     number
 }
@@ -149,14 +149,14 @@ pub extern "C" fn meanderpeg_capsule_type_guid(s: &[u8], k: usize, guid: &mut [u
 pub extern "C" fn meanderpeg_capsule_image_index(s: &[u8], k: usize) -> u8
     ensures { λ r. ⌜ r ≡ imageIndexOf (now (s .entry)) (located (now (s .entry)) k) ⌝ }
 {
-    capsule::image_index(s, k)
+    capsule_values::image_index(s, k)
 }
 
 #[no_mangle]
 pub extern "C" fn meanderpeg_capsule_hardware_instance(s: &[u8], k: usize) -> u64
     ensures { λ r. ⌜ r ≡ hardwareInstanceOf (now (s .entry)) (located (now (s .entry)) k) ⌝ }
 {
-    capsule::hardware_instance(s, k)
+    capsule_values::hardware_instance(s, k)
 }
 
 // Which copies are sound, and whether they are equal, as bits.

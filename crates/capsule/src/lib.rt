@@ -1,16 +1,15 @@
-// The items of a capsule: their parts, and what is shown of them.
+// The parts of a capsule's items, and the sister that gives the refusal.
 // Every entry checks the whole capsule first and has no condition: a refused one answers the empty part at the capsule's
-// start, or zeros, and `refusal` says which refusal it was, or none, for the same capsule and item number.
+// start, and `refusal` says which refusal it was, or none, for the same capsule and item number.
 // Items are numbered from 0 in list order, drivers first.
 ghost use mathlib.Core.Path.{_≡_};
 ghost use mathlib.Core.Bool.{true};
 ghost use Prim.Native.Nat.{_≤_};
 ghost use lib.ListN.{length};
-ghost use Rattle.capsule_rules.specs.Payload.{imageStart, imageEnd, vendorCodeEnd, payloadRight, imageIndex, hardwareInstance};
+ghost use Rattle.capsule_rules.specs.Payload.{imageStart, imageEnd, vendorCodeEnd, payloadRight};
 ghost use Rattle.capsule_check.specs.Verdict.{verdictNumber, refusalNumber};
 ghost use Rattle.capsule_check.specs.Item.{located};
 ghost use Rattle.capsule.specs.Parts.{IsPart, range, emptyAtStart, itemPart, imagePart, vendorCodePart};
-ghost use Rattle.capsule.specs.Shown.{typeGuidOf, imageIndexOf, hardwareInstanceOf};
 
 // The sister of all entries that take an item number: the refusal, 10 to 16, or none.
 pub fn refusal(s: &[u8], k: usize) -> capsule_check::Verdict
@@ -107,57 +106,4 @@ pub fn vendor_code(s: &[u8], k: usize) -> &[u8]
         }
         capsule_check::Item::Refused(_) => nothing(s),
     }
-}
-
-// The type GUID of payload item k.
-pub fn type_guid(s: &[u8], k: usize) -> [u8; 16]
-    ensures { λ r. ⌜ r ≡ typeGuidOf (now (s .entry)) (located (now (s .entry)) k) ⌝ }
-{
-    let found = capsule_check::locate(s, k);
-    match found {
-        capsule_check::Item::Payload { start, end } => fields::read_guid(part_of(s, start, end), 4),
-        capsule_check::Item::Driver { start: _, end: _ } => [0u8; 16],
-        capsule_check::Item::Refused(_) => [0u8; 16],
-    }
-}
-
-// The image index of payload item k.
-pub fn image_index(s: &[u8], k: usize) -> u8
-    ensures { λ r. ⌜ r ≡ imageIndexOf (now (s .entry)) (located (now (s .entry)) k) ⌝ }
-{
-    let found = capsule_check::locate(s, k);
-    match found {
-        capsule_check::Item::Payload { start, end } => index_of(part_of(s, start, end)),
-        capsule_check::Item::Driver { start: _, end: _ } => 0,
-        capsule_check::Item::Refused(_) => 0,
-    }
-}
-
-fn index_of(p: &[u8]) -> u8
-    requires { ⌜ payloadRight (now p) ≡ true ⌝ }
-    ensures { λ r. ⌜ r ≡ imageIndex (now (p .entry)) ⌝ }
-{
-    p[20]
-}
-
-// The hardware instance of payload item k; version 1 has none and shows 0.
-pub fn hardware_instance(s: &[u8], k: usize) -> u64
-    ensures { λ r. ⌜ r ≡ hardwareInstanceOf (now (s .entry)) (located (now (s .entry)) k) ⌝ }
-{
-    let found = capsule_check::locate(s, k);
-    match found {
-        capsule_check::Item::Payload { start, end } => instance_of(part_of(s, start, end)),
-        capsule_check::Item::Driver { start: _, end: _ } => 0,
-        capsule_check::Item::Refused(_) => 0,
-    }
-}
-
-fn instance_of(p: &[u8]) -> u64
-    requires { ⌜ payloadRight (now p) ≡ true ⌝ }
-    ensures { λ r. ⌜ r ≡ hardwareInstance (now (p .entry)) ⌝ }
-{
-    if fields::read32(p, 0) == 1 {
-        return 0;
-    }
-    fields::read64(p, 32)
 }

@@ -1,26 +1,17 @@
-// The check of a whole capsule, where an item of a faultless one lies, and how many there are.
+// The check of a whole capsule, and where an item of a faultless one lies.
 // It reads the header, the list of offsets and the payload headers and no byte of an image, so its cost does not grow with
 // the images' size.
-use capsule_rules::body_of;
+use capsule_header::body_of;
+use capsule_header::flags_right;
+use capsule_header::guid_right;
+use capsule_header::sizes_right;
 use capsule_rules::body_right;
-use capsule_rules::flags_right;
-use capsule_rules::guid_right;
 use capsule_rules::item_end;
 use capsule_rules::item_start;
 use capsule_rules::payloads_right;
-use capsule_rules::sizes_right;
 ghost use mathlib.Core.Path.{_≡_};
-ghost use mathlib.Core.Bool.{true};
-ghost use Prim.Native.Nat.{_+_, _*_, _<_, _≤_};
-ghost use lib.ListN.{length};
-ghost use Rattle.capsule_rules.specs.Header.{sizesRight, flagsRight, guidRight, body};
-ghost use Rattle.capsule_rules.specs.Payload.{versionRight, headerLength, payloadRight};
-ghost use Rattle.capsule_rules.specs.Body.{all, items, offset, offsetRight, bodyRight, itemEnd};
-ghost use Rattle.capsule_rules.specs.Payload.{payloadsRight};
-ghost use Rattle.capsule_rules.specs.Body.{item as itemBytes};
 ghost use Rattle.capsule_check.specs.Verdict.{verdict, verdictNumber};
 ghost use Rattle.capsule_check.specs.Item.{located};
-ghost use Rattle.capsule_check.specs.Count.{driverCount, payloadCount};
 
 // What the check says of a capsule.
 pub enum Verdict {
@@ -101,27 +92,5 @@ pub fn locate(s: &[u8], k: usize) -> Item
     match checked {
         Verdict::Refused(r) => Item::Refused(r),
         Verdict::Faultless => pick(s, k),
-    }
-}
-
-// How many drivers a faultless capsule has. A refused one answers 0, and `check` says why.
-pub fn driver_count(s: &[u8]) -> usize
-    ensures { λ r. ⌜ r ≡ driverCount (now (s .entry)) ⌝ }
-{
-    let checked = check(s);
-    match checked {
-        Verdict::Faultless => fields::read16(body_of(s), 4) as usize,
-        Verdict::Refused(_) => 0,
-    }
-}
-
-// How many payloads, as above.
-pub fn payload_count(s: &[u8]) -> usize
-    ensures { λ r. ⌜ r ≡ payloadCount (now (s .entry)) ⌝ }
-{
-    let checked = check(s);
-    match checked {
-        Verdict::Faultless => fields::read16(body_of(s), 6) as usize,
-        Verdict::Refused(_) => 0,
     }
 }

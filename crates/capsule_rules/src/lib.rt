@@ -1,76 +1,12 @@
-// The rules on a capsule's header, on its body with the list of offsets, and on its payload headers (document 01, "The capsule"; UEFI 2.10,
-// 23.3). Each is a function that answers what its definition says. No byte of an image is read.
+// The rules on a capsule's body with the list of offsets, and on its payload headers (document 01, "The capsule"; UEFI 2.10, 23.3). Each is a
+// function that answers what its definition says. No byte of an image is read.
 ghost use mathlib.Core.Path.{_≡_};
 ghost use mathlib.Core.Bool.{true};
 ghost use Prim.Native.Nat.{_+_, _*_, _<_, _≤_};
 ghost use lib.ListN.{length};
-ghost use Rattle.capsule_rules.specs.Header.{sizesRight, flagsRight, guidRight, body};
 ghost use Rattle.capsule_rules.specs.Payload.{versionRight, headerLength, payloadRight, payloadsRight};
 ghost use Rattle.capsule_rules.specs.Body.{all, items, offset, offsetRight, bodyRight, itemEnd};
 ghost use Rattle.capsule_rules.specs.Body.{item as itemBytes};
-
-const FMP_GUID: [u8; 16] = [
-    0xed,
-    0xd5,
-    0xcb,
-    0x6d,
-    0x2d,
-    0xe8,
-    0x44,
-    0x4c,
-    0xbd,
-    0xa1,
-    0x71,
-    0x94,
-    0x19,
-    0x9a,
-    0xd9,
-    0x2a,
-];
-
-// Refusal 11: HeaderSize at both ends, and CapsuleImageSize against the length given.
-pub fn sizes_right(s: &[u8]) -> bool
-    requires { ⌜ 28 ≤ length (now s) ⌝ }
-    ensures { λ r. ⌜ r ≡ sizesRight (now (s .entry)) ⌝ }
-{
-    let header = fields::read32(s, 16);
-    let size = fields::read32(s, 24);
-    if header < 28 {
-        return false;
-    }
-    if size < header {
-        return false;
-    }
-    (size as usize) == s.len()
-}
-
-// Refusal 12: the flag rule.
-pub fn flags_right(flags: u32) -> bool
-    ensures { λ r. ⌜ r ≡ flagsRight flags ⌝ }
-{
-    if flags / 0x0004_0000 % 2 != 1 {
-        return true;
-    }
-    flags / 0x0001_0000 % 2 == 1
-}
-
-// Refusal 13: the GUID of firmware management capsules.
-pub fn guid_right(s: &[u8]) -> bool
-    requires { ⌜ 28 ≤ length (now s) ⌝ }
-    ensures { λ r. ⌜ r ≡ guidRight (now (s .entry)) ⌝ }
-{
-    let guid = FMP_GUID;
-    fields::same_guid(s, 0, &guid, 0)
-}
-
-// The body.
-pub fn body_of(s: &[u8]) -> &[u8]
-    requires { ⌜ sizesRight (now s) ≡ true ⌝ }
-    ensures { λ r. ⌜ now r ≡ body (now (s .entry)) ⌝ }
-{
-    let at = fields::read32(s, 16) as usize;
-    &s[at..]
-}
 
 // Whether a payload header has this version.
 pub fn version_right(version: u32) -> bool

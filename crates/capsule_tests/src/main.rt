@@ -110,10 +110,10 @@ fn line(label: &[u8], s: &[u8], k: usize) {
     number(capsule::image(s, k).len() as u64);
     number(capsule::vendor_code(s, k).len() as u64);
     number(first(capsule::image(s, k)) as u64);
-    let g = capsule::type_guid(s, k);
+    let g = capsule_values::type_guid(s, k);
     number(g[0] as u64);
-    number(capsule::image_index(s, k) as u64);
-    number(capsule::hardware_instance(s, k));
+    number(capsule_values::image_index(s, k) as u64);
+    number(capsule_values::hardware_instance(s, k));
     io::write_all(1, b"\n");
 }
 
@@ -132,8 +132,8 @@ fn show(label: &[u8], b: &[u8; 1024], n: usize, k: usize) {
 
 // The counts of drivers and payloads.
 fn tally(b: &[u8; 1024], n: usize) {
-    number(capsule_check::driver_count(front(b, n)) as u64);
-    number(capsule_check::payload_count(front(b, n)) as u64);
+    number(capsule_values::driver_count(front(b, n)) as u64);
+    number(capsule_values::payload_count(front(b, n)) as u64);
 }
 
 // The sample, item k of it.

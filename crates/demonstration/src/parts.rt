@@ -45,10 +45,10 @@ fn show_lengths(s: &[u8], k: usize) {
 
 // What is shown of it, and in lines of their own its image and its vendor code, which are text in the sample.
 fn show_parts(s: &[u8], k: usize) {
-    named(b", index ", wide(capsule::image_index(s, k)));
-    named(b", instance ", capsule::hardware_instance(s, k));
+    named(b", index ", wide(capsule_values::image_index(s, k)));
+    named(b", instance ", capsule_values::hardware_instance(s, k));
     text(b", type GUID ");
-    show_guid(capsule::type_guid(s, k));
+    show_guid(capsule_values::type_guid(s, k));
     text(b"\n  image \"");
     text(capsule::image(s, k));
     text(b"\", vendor code \"");
@@ -63,12 +63,12 @@ fn show_item(s: &[u8], k: usize) {
 
 // A capsule of one driver and one payload; the answer is the payload's type GUID.
 fn show_capsule(s: &[u8]) -> [u8; 16] {
-    named(b"capsule: drivers ", capsule_check::driver_count(s) as u64);
-    named(b", payloads ", capsule_check::payload_count(s) as u64);
+    named(b"capsule: drivers ", capsule_values::driver_count(s) as u64);
+    named(b", payloads ", capsule_values::payload_count(s) as u64);
     text(b"\n");
     show_item(s, 0);
     show_item(s, 1);
-    capsule::type_guid(s, 1)
+    capsule_values::type_guid(s, 1)
 }
 
 // The capsule at its place in the window.

@@ -5,7 +5,7 @@ use mathlib.Core.Bool.{true}
 use borrow.Author.Tests.{le-leb, lt-leb, not-true, not-false}
 use lib.Dec.{leb}
 use lib.ListN.{length}
-use Rattle.capsule_rules.specs.Header.{sizesRight, flags, flagsRight, guidRight, body}
+use Rattle.capsule_header.specs.Header.{sizesRight, flags, flagsRight, guidRight, body}
 use Rattle.capsule_rules.specs.Body.{bodyRight}
 use Rattle.capsule_rules.specs.Payload.{payloadsRight}
 use Rattle.capsule_check.specs.Verdict.{verdict}

@@ -1,0 +1,2 @@
+-- What the definitions of capsules compute. Assumes nothing.
+pub mod Samples

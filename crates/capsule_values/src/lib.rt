@@ -1,0 +1,87 @@
+// The values shown of a capsule: how many items of each kind it has, and a payload item's type GUID, image index and hardware instance.
+// Every entry checks the whole capsule first and has no condition: a refused one answers 0 or zeros, and `capsule::refusal` says which
+// refusal it was. Items are numbered from 0 in list order, drivers first.
+use capsule_check::Item;
+use capsule_check::Verdict;
+use capsule_header::body_of;
+ghost use mathlib.Core.Path.{_≡_};
+ghost use mathlib.Core.Bool.{true};
+ghost use Rattle.capsule_rules.specs.Payload.{payloadRight, imageIndex, hardwareInstance};
+ghost use Rattle.capsule_check.specs.Item.{located};
+ghost use Rattle.capsule_values.specs.Count.{driverCount, payloadCount};
+ghost use Rattle.capsule_values.specs.Shown.{typeGuidOf, imageIndexOf, hardwareInstanceOf};
+
+// How many drivers a faultless capsule has. A refused one answers 0, and `check` says why.
+pub fn driver_count(s: &[u8]) -> usize
+    ensures { λ r. ⌜ r ≡ driverCount (now (s .entry)) ⌝ }
+{
+    let checked = capsule_check::check(s);
+    match checked {
+        Verdict::Faultless => fields::read16(body_of(s), 4) as usize,
+        Verdict::Refused(_) => 0,
+    }
+}
+
+// How many payloads, as above.
+pub fn payload_count(s: &[u8]) -> usize
+    ensures { λ r. ⌜ r ≡ payloadCount (now (s .entry)) ⌝ }
+{
+    let checked = capsule_check::check(s);
+    match checked {
+        Verdict::Faultless => fields::read16(body_of(s), 6) as usize,
+        Verdict::Refused(_) => 0,
+    }
+}
+
+// The type GUID of payload item k.
+pub fn type_guid(s: &[u8], k: usize) -> [u8; 16]
+    ensures { λ r. ⌜ r ≡ typeGuidOf (now (s .entry)) (located (now (s .entry)) k) ⌝ }
+{
+    let found = capsule_check::locate(s, k);
+    match found {
+        Item::Payload { start, end } => fields::read_guid(&s[start..end], 4),
+        Item::Driver { start: _, end: _ } => [0u8; 16],
+        Item::Refused(_) => [0u8; 16],
+    }
+}
+
+// The image index of payload item k.
+pub fn image_index(s: &[u8], k: usize) -> u8
+    ensures { λ r. ⌜ r ≡ imageIndexOf (now (s .entry)) (located (now (s .entry)) k) ⌝ }
+{
+    let found = capsule_check::locate(s, k);
+    match found {
+        Item::Payload { start, end } => index_of(&s[start..end]),
+        Item::Driver { start: _, end: _ } => 0,
+        Item::Refused(_) => 0,
+    }
+}
+
+fn index_of(p: &[u8]) -> u8
+    requires { ⌜ payloadRight (now p) ≡ true ⌝ }
+    ensures { λ r. ⌜ r ≡ imageIndex (now (p .entry)) ⌝ }
+{
+    p[20]
+}
+
+// The hardware instance of payload item k; version 1 has none and shows 0.
+pub fn hardware_instance(s: &[u8], k: usize) -> u64
+    ensures { λ r. ⌜ r ≡ hardwareInstanceOf (now (s .entry)) (located (now (s .entry)) k) ⌝ }
+{
+    let found = capsule_check::locate(s, k);
+    match found {
+        Item::Payload { start, end } => instance_of(&s[start..end]),
+        Item::Driver { start: _, end: _ } => 0,
+        Item::Refused(_) => 0,
+    }
+}
+
+fn instance_of(p: &[u8]) -> u64
+    requires { ⌜ payloadRight (now p) ≡ true ⌝ }
+    ensures { λ r. ⌜ r ≡ hardwareInstance (now (p .entry)) ⌝ }
+{
+    if fields::read32(p, 0) == 1 {
+        return 0;
+    }
+    fields::read64(p, 32)
+}
