@@ -9,10 +9,10 @@ use Rattle.fields.specs.Number.{le}
 use Rattle.stores.specs.Added.{Added, stored}
 use Rattle.stores.specs.Stores.{Store, offsets}
 use Rattle.stores.proofs.Laid.{added-then, stored-one, plan-parts}
 use Rattle.alterations.specs.Altered.{newRecord}
 use Rattle.alterations.proofs.Words.{new-length, new-crc, new-version}
-use Rattle.alterations.proofs.put_change.Statement.{statement}
-use Rattle.alterations.proofs.put_change.Tie as tie
+use Rattle.change_lists.proofs.put_change.Statement.{statement}
+use Rattle.change_lists.proofs.put_change.Tie as tie
 
 add-put-pair : tie.Need-add-put-pair
 add-put-pair c = search needs

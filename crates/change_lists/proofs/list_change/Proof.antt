@@ -7,9 +7,9 @@ use lib.ListN.{length, drop, length-drop}
 use lib.Seq.{length-take-le}
 use Rattle.record.specs.Layout.{recordOf, copy0, copy1}
 use Rattle.record.proofs.Copies.{record-long}
-use Rattle.alterations.proofs.Listing.{alterable, listable, short, listed-none, listed-both}
-use Rattle.alterations.proofs.list_change.Statement.{statement}
-use Rattle.alterations.proofs.list_change.Tie as tie
+use Rattle.change_lists.proofs.Listing.{alterable, listable, short, listed-none, listed-both}
+use Rattle.change_lists.proofs.list_change.Statement.{statement}
+use Rattle.change_lists.proofs.list_change.Tie as tie
 
 sub-record-in : tie.Need-sub-record-in
 sub-record-in c = search needs

@@ -9,10 +9,10 @@ use Rattle.fields.specs.Number.{le}
 use Rattle.stores.proofs.Laid.{added-none, added-more, stored-one, offsets-none}
 use Rattle.stores.specs.Added.{Added, stored}
 use Rattle.stores.specs.Stores.{offsets}
 use Rattle.alterations.specs.Altered.{newRecord}
 use Rattle.alterations.proofs.Words.{new-apart}
-use Rattle.alterations.proofs.put_new_words.Statement.{statement}
-use Rattle.alterations.proofs.put_new_words.Tie as tie
+use Rattle.change_lists.proofs.put_new_words.Statement.{statement}
+use Rattle.change_lists.proofs.put_new_words.Tie as tie
 
 abbrev Inv-loop : tie.InvT-loop
 Inv-loop c r banks x base out₀ k j₀ o₀ out j o =
