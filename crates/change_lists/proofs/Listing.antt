@@ -10,7 +10,6 @@ use Rattle.fields.proofs.Tests.{both}
 use Rattle.fields.proofs.Guid.{same-true}
 use Rattle.record.specs.Layout.{copySize, bankCount, imageCount, recordOf, copy0, copy1}
 use Rattle.record.specs.Rules.{sound, soundCopy}
-use Rattle.record.specs.Sized.{Sized}
 use Rattle.record.proofs.Sound.{sound-sized}
 use Rattle.record.proofs.Sizes.{in-words, record-high}
 use Rattle.copies.specs.Copies.{recordsEqual, soundAndEqual}
@@ -33,22 +32,27 @@ unfolding soundAndEqual recordsEqual
 equal-same a e =
     same-true (recordOf (copy0 a)) (recordOf (copy1 a)) (both (soundCopy (copy0 a) && soundCopy (copy1 a)) (recordsEqual a) e .1)
 
--- r is the record of copy 0
-module _ (x : Alteration) (a d r : List ℕ) (e : r ≡ recordOf (copy0 a)) (p : Changeable a d) (w : Within x (recordOf (copy0 a))) where
-  sized : Sized r (bankCount r) (imageCount r)
-  sized = sound-sized r (rw e (equal-sound a (p .equal)))
-
-  pub alterable : Alterable x r (bankCount r)
-  alterable = record { sized = sized; within = rw e w }
-
+-- a record that is altered is short enough for the list of either copy
+module _ (x : Alteration) (r : List ℕ) (banks : ℕ) (l : Alterable x r banks) where
   pub listable : (c : List ℕ) (base k room : ℕ) → length c ≡ 8192 → base ≤ 8192 → k ≤ 1035 → 4200 ≤ room → Listable c r base k room
   listable c base k room lc lb lk lr =
-      let n = in-words r (bankCount r) (imageCount r) sized in
-      let h = record-high r (bankCount r) (imageCount r) sized in
+      let n = in-words r banks (imageCount r) (l .sized) in
+      let h = record-high r banks (imageCount r) (l .sized) in
       record { low = omega arith; high = omega arith; words = omega arith; inside = omega arith; at = lb; fits = omega arith }
 
   pub short : length r / 4 + 1 ≤ 1035
-  short = omega (arith, record-high r (bankCount r) (imageCount r) sized)
+  short = omega (arith, record-high r banks (imageCount r) (l .sized))
+
+-- one list behind the other, from the front
+pub listed-then : (n m : ℕ) (one two : List Store) (d f g : List ℕ) → Added 0 n one d f → Added n m two f g → Listed m (one ++ two) d g
+listed-then n m one two d f g s t =
+    let q = added-all m (one ++ two) d g (added-then 0 n m one two d f g s t) in
+    record { count = q .0; lists = q .1 }
+
+-- r is the record of copy 0
+module _ (x : Alteration) (a d r : List ℕ) (e : r ≡ recordOf (copy0 a)) (p : Changeable a d) (w : Within x (recordOf (copy0 a))) where
+  pub alterable : Alterable x r (bankCount r)
+  alterable = record { sized = sound-sized r (rw e (equal-sound a (p .equal))); within = rw e w }
 
   second : recordOf (copy1 a) ≡ r
   second = sym (e ∙ equal-same a (p .equal))
@@ -60,19 +64,11 @@ module _ (x : Alteration) (a d r : List ℕ) (e : r ≡ recordOf (copy0 a)) (p :
   unfolding changeStores copyStores
   stores-none h = rw (← e, second, ← h)
 
-  stores-both : false ≡ same r (newRecord x r) → stores ≡ plan 0 (copy0 a) (newRecord x r) ++ plan copySize (copy1 a) (newRecord x r)
-  unfolding changeStores copyStores
-  stores-both h = rw (← e, second, ← h)
-
   -- nothing to do
   pub listed-none : true ≡ same r (newRecord x r) → Listed 0 stores d d
   listed-none h = record { count = rw (stores-none h); lists = rw (stores-none h, withList-none) }
 
-  -- copy 0, then copy 1
-  pub listed-both : false ≡ same r (newRecord x r) → (n m : ℕ) (f g : List ℕ) → Added 0 n (plan 0 (copy0 a) (newRecord x r)) d f
-      → Added n m (plan copySize (copy1 a) (newRecord x r)) f g → Listed m stores d g
-  listed-both h n m f g s t =
-      let one = plan 0 (copy0 a) (newRecord x r) in
-      let two = plan copySize (copy1 a) (newRecord x r) in
-      let q = added-all m (one ++ two) d g (added-then 0 n m one two d f g s t) in
-      rw (stores-both h) (record { count = q .0; lists = q .1 })
+  -- both copies
+  pub stores-both : false ≡ same r (newRecord x r) → stores ≡ plan 0 (copy0 a) (newRecord x r) ++ plan copySize (copy1 a) (newRecord x r)
+  unfolding changeStores copyStores
+  stores-both h = rw (← e, second, ← h)

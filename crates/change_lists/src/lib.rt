@@ -11,11 +11,12 @@ use record::record_in;
 use stores::put_differing;
 use stores::put_pair;
 ghost use mathlib.Core.Path.{_≡_};
+ghost use mathlib.Core.List.{_++_};
 ghost use Prim.Native.Nat.{_+_, _-_, _/_, _≤_};
 ghost use lib.ListN.{length, drop};
 ghost use Rattle.crc.specs.Crc.{crc32Of};
-ghost use Rattle.record.specs.Layout.{versionAt, recordOf, copy0};
-ghost use Rattle.stores.specs.Stores.{offsets, plan};
+ghost use Rattle.record.specs.Layout.{areaSize, copySize, versionAt, recordOf, copy0, copy1};
+ghost use Rattle.stores.specs.Stores.{offsets, plan, storeNumbers};
 ghost use Rattle.stores.specs.Added.{Added, stored, Listable};
 ghost use Rattle.alterations.specs.ChangeStores.{changeStores};
 ghost use Rattle.alterations.specs.Altered.{alteredBy, newRecord, Within, Alterable, Changeable, Listed};
@@ -62,7 +63,16 @@ fn put_change(
     put_pair(out, third, base + 4, read32(r, 4))
 }
 
-// Lists the stores that make the alteration in both copies, copy 0 whole before copy 1; none where it alters nothing.
+// Into both copies, copy 0 whole before copy 1.
+fn put_both(area: &[u8], r: &[u8], banks: usize, x: Alteration, crc: u32, out: &mut [u32]) -> usize
+    requires { ⌜ Alterable x (now r) banks × (crc ≡ crc32Of (drop versionAt (alteredBy x (now r)))) × (length (now area) ≡ areaSize) × (storeNumbers ≤ length (now out)) ⌝ }
+    ensures { λ n. ⌜ Listed n (plan 0 (copy0 (now (area .entry))) (newRecord x (now (r .entry))) ++ plan copySize (copy1 (now (area .entry))) (newRecord x (now (r .entry)))) (now (out .entry)) (now (out .exit)) ⌝ }
+{
+    let n = put_change(&area[0..COPY], r, banks, x, crc, 0, out, 0);
+    put_change(&area[COPY..AREA], r, banks, x, crc, 8192, out, n)
+}
+
+// Lists the stores that make the alteration in both copies; none where it alters nothing.
 pub fn list_change(area: &[u8], x: Alteration, out: &mut [u32]) -> usize
     requires { ⌜ Changeable (now area) (now out) × Within x (recordOf (copy0 (now area))) ⌝ }
     ensures { λ n. ⌜ Listed n (changeStores (now (area .entry)) (newRecord x (recordOf (copy0 (now (area .entry)))))) (now (out .entry)) (now (out .exit)) ⌝ }
@@ -73,6 +83,5 @@ pub fn list_change(area: &[u8], x: Alteration, out: &mut [u32]) -> usize
     if unchanged(r, banks, x, crc) {
         return 0;
     }
-    let n = put_change(&area[0..COPY], r, banks, x, crc, 0, out, 0);
-    put_change(&area[COPY..AREA], r, banks, x, crc, 8192, out, n)
+    put_both(area, r, banks, x, crc, out)
 }
