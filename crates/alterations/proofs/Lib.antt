@@ -2,4 +2,3 @@
 pub mod Places
 pub mod Words
 pub mod Same
-pub mod Listing

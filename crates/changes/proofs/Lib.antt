@@ -1,5 +1,3 @@
--- Laws of stores that do not meet, and of the alterations of each call, for the proofs here and in the crates above.
-pub mod Words
+-- Laws of a record with one field anew, and of the banks of a sound one, for the proofs here and in the crates above.
 pub mod Setting
-pub mod Making
-pub mod Listing
+pub mod Banks

@@ -8,7 +8,7 @@ use Rattle.record.specs.Layout.{active}
 use Rattle.record.specs.Rules.{allAccepted}
 use Rattle.alterations.specs.Fields.{setAccepted}
 use Rattle.changes.specs.NewRecord.{marked}
-use Rattle.changes.proofs.Making.{marked-is}
+use Rattle.changes.proofs.Setting.{marked-is}
 use Rattle.record.proofs.Sound.{sound-sized, sound-named}
 use Rattle.admission.proofs.Known.{known}
 use borrow.Author.Needs.{needs}

@@ -2,7 +2,7 @@
 use borrow.Author.Needs.{needs}
 use native.Mathlib.Omega.{arith}
 use mathlib.Core.Path.{refl}
-use Rattle.changes.proofs.Making.{header, banks-few, update-in}
+use Rattle.changes.proofs.Banks.{header, banks-few, update-in}
 use Rattle.changes.proofs.update_bank.Statement.{statement}
 use Rattle.changes.proofs.update_bank.Tie as tie
 
