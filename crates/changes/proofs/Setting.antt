@@ -1,12 +1,12 @@
 -- What a record with one field anew says. Assumes nothing.
-use mathlib.Core.Path.{_≡_, refl, sym, ap, _∙_}
+use mathlib.Core.Path.{_≡_, refl}
 use mathlib.Core.Logic.{_⊎_, inl, inr, ⊎-elim}
 use mathlib.Core.List.{List, [], _∷_}
 use Prim.Native.Nat.{ℕ, suc, _+_, _*_, _≤_, _<_}
 use native.Mathlib.Nat.{suc-mul}
 use native.Mathlib.Omega.{arith}
 use lib.ListN.{length}
-use Rattle.fields.specs.Number.{le, bytes, put}
+use Rattle.fields.specs.Number.{le}
 use Rattle.fields.proofs.Tests.{le-or-lt}
 use Rattle.fields.proofs.Put.{put-outside, read-back}
 use Rattle.fields.proofs.Beside.{byte-back}
