@@ -30,9 +30,9 @@ pub const ENTRIES: [&str; 13] = [
 /// How many thousands of inputs the comparison with crates/random_tests takes of an entry.
 pub fn thousands(entry: &str) -> u64 {
     match entry {
-        "gather" | "capsule" => 24,
+        "gather" | "capsule" => 40,
         "rules" => 0,
-        _ => 6,
+        _ => 12,
     }
 }
 
