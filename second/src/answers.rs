@@ -9,8 +9,9 @@ use crate::record;
 use crate::session::*;
 use crate::sheet::sheet;
 
-/// The entries, by name, in the order in which they are reported.
-pub const ENTRIES: [&str; 12] = [
+/// The entries, by name, in the order in which they are reported. The last has no place in the comparison with
+/// crates/random_tests, which asks for soundness instead: the product's interface tells no failing rule's number.
+pub const ENTRIES: [&str; 13] = [
     "gather",
     "capsule",
     "start_up",
@@ -22,7 +23,79 @@ pub const ENTRIES: [&str; 12] = [
     "accept",
     "select_previous",
     "sheet",
+    "soundness",
     "rules",
+];
+
+/// How many thousands of inputs the comparison with crates/random_tests takes of an entry.
+pub fn thousands(entry: &str) -> u64 {
+    match entry {
+        "gather" | "capsule" => 40,
+        "rules" => 0,
+        _ => 12,
+    }
+}
+
+/// Every outcome that an entry can have, in the order in which they are reported: refusals by number, then the others.
+pub fn outcomes(entry: &str) -> Vec<String> {
+    let (refusals, others): (&[u32], &[&str]) = match entry {
+        "gather" => (&[1, 2, 3, 4, 5, 6, 7], &["accepted, at the window's start", "accepted, further up"]),
+        "capsule" => (
+            &[10, 11, 12, 13, 14, 15, 16],
+            &["accepted, driver", "accepted, payload version 1", "accepted, payload version 2"],
+        ),
+        "start_up" => (
+            &[20, 21, 28],
+            &[
+                "accepted, Regular, area as it was",
+                "accepted, Trial, area as it was",
+                "accepted, Fallback, area as it was",
+            ],
+        ),
+        "repair" => (&[20, 21, 23], &["accepted, Restart, area as it was", "accepted, Restart, area altered"]),
+        "begin" => (
+            &[20, 21, 22, 23, 24, 25],
+            &["accepted, Staging, area as it was", "accepted, Staging, area altered"],
+        ),
+        "commit" => (
+            &[20, 21, 22, 23, 24, 25, 26],
+            &["accepted, Staging, area as it was", "accepted, Staging, area altered"],
+        ),
+        "end" => (&[20, 21, 22, 23, 24, 25, 27], &["accepted, Restart, area altered"]),
+        "cancel" => (&[20, 21, 22, 23, 24, 25], &["accepted, Regular, area as it was"]),
+        "accept" => (
+            &[20, 21, 22, 23, 24, 25, 26],
+            &[
+                "accepted, Regular, area as it was",
+                "accepted, Regular, area altered",
+                "accepted, Trial, area as it was",
+                "accepted, Trial, area altered",
+            ],
+        ),
+        "select_previous" => (
+            &[20, 21, 22, 23, 24, 25],
+            &["accepted, Restart, area as it was", "accepted, Restart, area altered"],
+        ),
+        "sheet" => (&[], &["refused 20", "refused 21", "record 0", "record 1"]),
+        "soundness" => (&[20], &SOUNDNESS),
+        _ => (&[], &[]),
+    };
+    let mut all: Vec<String> = refusals.iter().map(|number| format!("refusal {number}")).collect();
+    all.extend(others.iter().map(|other| other.to_string()));
+    if entry == "rules" {
+        for copy in 0..2 {
+            all.extend((0..15).chain([99]).map(|number| format!("copy {copy}, rule {number:02}")));
+        }
+    }
+    all
+}
+
+const SOUNDNESS: [&str; 5] = [
+    "no copy sound",
+    "copy 0 sound",
+    "copy 1 sound",
+    "both copies sound, not equal",
+    "both copies sound and equal",
 ];
 
 /// The digests of inputs and of answers, and the tally of outcomes.
@@ -39,6 +112,7 @@ pub fn answer(entry: &str, seed: u64, k: u64, account: &mut Account) -> String {
         "gather" => answer_gather(seed, k, account),
         "capsule" => answer_capsule(seed, k, account),
         "sheet" => answer_sheet(seed, k, account),
+        "soundness" => answer_soundness(seed, k, account),
         "rules" => answer_rules(seed, k, account),
         _ => {
             let place = ENTRIES.iter().position(|&e| e == entry).expect("an entry's name");
@@ -160,6 +234,10 @@ fn answer_call(call: u64, seed: u64, k: u64, account: &mut Account) -> String {
     if call == 1 {
         account.answers.word(if repair_lists_none(&input.area, input.slice_len) { 1 } else { 0 });
     }
+    if call >= 1 {
+        // "Numbers past the list stay": none is altered.
+        account.answers.word(0);
+    }
     let altered = if answer.area == input.area { "as it was" } else { "altered" };
     if answer.refusal > 0 {
         account.tally.add(&format!("refusal {}", answer.refusal));
@@ -191,6 +269,27 @@ fn answer_sheet(seed: u64, k: u64, account: &mut Account) -> String {
     let first = text.lines().next().unwrap_or("");
     account.tally.add(&first.split('\t').take(2).collect::<Vec<_>>().join(" "));
     text
+}
+
+/// The soundness of the area that input k of repair holds: 1 for copy 0, 2 for copy 1, 4 where both are sound and equal, added;
+/// 20 and 99 where it isn't 16,384 bytes.
+fn answer_soundness(seed: u64, k: u64, account: &mut Account) -> String {
+    let area = call_input(1, seed, k).area;
+    account.inputs.bytes(&area);
+    if area.len() != record::AREA {
+        account.answers.word(20);
+        account.answers.word(99);
+        account.tally.add("refusal 20");
+        return "refusal 20".to_string();
+    }
+    let zero = record::sound(record::copy_of(&area, 0)) as u32;
+    let one = record::sound(record::copy_of(&area, 1)) as u32;
+    let equal = record::both_sound_and_equal(&area) as u32;
+    account.answers.word(0);
+    account.answers.word(zero + 2 * one + 4 * equal);
+    let outcome = SOUNDNESS[(zero + 2 * one + equal) as usize];
+    account.tally.add(outcome);
+    outcome.to_string()
 }
 
 /// The first failing rule of both copies of the area that input k of repair holds; 99 where it isn't 16,384 bytes.

@@ -614,6 +614,33 @@ pub fn sound_plan(d: &mut Draw) -> RecordPlan {
     RecordPlan { banks, images, active, previous, states, accepted, guid_place }
 }
 
+/// The plan altered so that its record keeps every rule but that for the number of banks or of images.
+fn past_a_limit(plan: &RecordPlan, rule: u64) -> RecordPlan {
+    let mut past = plan.clone();
+    match rule {
+        15 => {
+            let active = plan.active as usize;
+            past.states = [plan.states[active], 255, 255, 255];
+            past.accepted[0] = plan.accepted[active];
+            (past.banks, past.active, past.previous) = (1, 0, 0);
+        }
+        16 => past.banks = 5,
+        17 => {
+            past.images = 33;
+            for bank in 0..4 {
+                if plan.states[bank] == 252 {
+                    past.accepted[bank] = 4_294_967_295;
+                }
+            }
+        }
+        _ => {
+            past.images = 0;
+            past.states = plan.states.map(|state| if state == 254 { 252 } else { state });
+        }
+    }
+    past
+}
+
 /// The recipe "a broken rule": breaks one rule in a copy that holds the plan's record, by three numbers drawn before.
 pub fn break_rule(copy: &mut [u8], plan: &RecordPlan, rule: u64, v: usize, i: usize, z: usize) {
     let b = z % plan.banks;
@@ -668,7 +695,11 @@ pub fn break_rule(copy: &mut [u8], plan: &RecordPlan, rule: u64, v: usize, i: us
             }
             _ => copy[24 + plan.active as usize] = 255,
         },
-        _ => copy[z % 4] = ((copy[z % 4] as usize + 1) % 256) as u8,
+        14 => copy[z % 4] = ((copy[z % 4] as usize + 1) % 256) as u8,
+        _ => {
+            let record = record_bytes(&past_a_limit(plan, rule));
+            copy[..record.len()].copy_from_slice(&record);
+        }
     }
     if rule != 14 {
         renew_crc(copy);
@@ -780,7 +811,7 @@ pub fn call_input(call: u64, seed: u64, k: u64) -> CallInput {
     let mut area = make_area(&record, &record, tint);
 
     // What the case alters in the area.
-    let rule = 1 + round % 14;
+    let rule = 1 + round % 18;
     match case {
         6 => {
             let at = COPY + 40 + im * (32 + 24 * plan.banks) + 16 + z % 12;

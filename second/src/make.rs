@@ -28,6 +28,7 @@ pub fn type_guid_for(image: usize, place: usize) -> [u8; 16] {
 }
 
 /// The record of a plan, with its CRC. Sound where the plan keeps the rules.
+/// A plan may pass the limits by one: in a fifth bank no image is accepted, a 33rd image is accepted where image 0 is.
 /// Location GUID of image i: byte j is (16 i + j) mod 256. Image GUID of image i in bank b: byte j is (4 i + b + 17 j) mod 256.
 pub fn record_bytes(plan: &RecordPlan) -> Vec<u8> {
     let entry_size = 32 + 24 * plan.banks;
@@ -56,7 +57,8 @@ pub fn record_bytes(plan: &RecordPlan) -> Vec<u8> {
             for j in 0..16 {
                 r[bank_at + j] = ((4 * i + b + 17 * j) % 256) as u8;
             }
-            put(&mut r, bank_at + 16, 4, ((plan.accepted[b] >> i) & 1) as u128);
+            let accepted = if b < 4 { (plan.accepted[b] >> (i % 32)) & 1 } else { 0 };
+            put(&mut r, bank_at + 16, 4, accepted as u128);
         }
     }
     with_crc(r)

@@ -7,157 +7,19 @@ use second::inputs::*;
 use second::record::*;
 use second::session::Session;
 
-/// Every refusal that an entry can give, and every accepted case, is met in 1,500 inputs.
+/// Every refusal that an entry can give, and every other outcome told for it, is met in 1,500 inputs, and none besides.
 #[test]
 fn every_outcome_is_met() {
-    let expected: [(&str, &[&str]); 12] = [
-        (
-            "gather",
-            &[
-                "refusal 1",
-                "refusal 2",
-                "refusal 3",
-                "refusal 4",
-                "refusal 5",
-                "refusal 6",
-                "refusal 7",
-                "accepted, at the window's start",
-                "accepted, further up",
-            ],
-        ),
-        (
-            "capsule",
-            &[
-                "refusal 10",
-                "refusal 11",
-                "refusal 12",
-                "refusal 13",
-                "refusal 14",
-                "refusal 15",
-                "refusal 16",
-                "accepted, driver",
-                "accepted, payload version 1",
-                "accepted, payload version 2",
-            ],
-        ),
-        (
-            "start_up",
-            &[
-                "refusal 20",
-                "refusal 21",
-                "refusal 28",
-                "accepted, Regular, area as it was",
-                "accepted, Trial, area as it was",
-                "accepted, Fallback, area as it was",
-            ],
-        ),
-        (
-            "repair",
-            &[
-                "refusal 20",
-                "refusal 23",
-                "refusal 21",
-                "accepted, Restart, area as it was",
-                "accepted, Restart, area altered",
-            ],
-        ),
-        (
-            "begin",
-            &[
-                "refusal 20",
-                "refusal 23",
-                "refusal 21",
-                "refusal 22",
-                "refusal 24",
-                "refusal 25",
-                "accepted, Staging, area altered",
-                "accepted, Staging, area as it was",
-            ],
-        ),
-        (
-            "commit",
-            &[
-                "refusal 20",
-                "refusal 23",
-                "refusal 21",
-                "refusal 22",
-                "refusal 24",
-                "refusal 25",
-                "refusal 26",
-                "accepted, Staging, area altered",
-                "accepted, Staging, area as it was",
-            ],
-        ),
-        (
-            "end",
-            &[
-                "refusal 20",
-                "refusal 23",
-                "refusal 21",
-                "refusal 22",
-                "refusal 24",
-                "refusal 25",
-                "refusal 27",
-                "accepted, Restart, area altered",
-            ],
-        ),
-        (
-            "cancel",
-            &[
-                "refusal 20",
-                "refusal 23",
-                "refusal 21",
-                "refusal 22",
-                "refusal 24",
-                "refusal 25",
-                "accepted, Regular, area as it was",
-            ],
-        ),
-        (
-            "accept",
-            &[
-                "refusal 20",
-                "refusal 23",
-                "refusal 21",
-                "refusal 22",
-                "refusal 24",
-                "refusal 25",
-                "refusal 26",
-                "accepted, Regular, area altered",
-                "accepted, Regular, area as it was",
-                "accepted, Trial, area altered",
-                "accepted, Trial, area as it was",
-            ],
-        ),
-        (
-            "select_previous",
-            &[
-                "refusal 20",
-                "refusal 23",
-                "refusal 21",
-                "refusal 22",
-                "refusal 24",
-                "refusal 25",
-                "accepted, Restart, area altered",
-                "accepted, Restart, area as it was",
-            ],
-        ),
-        ("sheet", &["record 0", "record 1", "refused 20", "refused 21"]),
-        ("rules", &["copy 0, rule 00", "copy 0, rule 14", "copy 1, rule 00", "copy 1, rule 14"]),
-    ];
-    for (entry, outcomes) in expected {
+    for entry in ENTRIES {
         let mut account = Account::default();
         for k in 0..1_500 {
             answer(entry, 1, k, &mut account);
         }
-        for outcome in outcomes {
+        let told = outcomes(entry);
+        for outcome in &told {
             assert!(account.tally.of(outcome) > 0, "{entry}: {outcome}");
         }
-        if entry == "rules" {
-            assert_eq!(account.tally.counts.len(), 32);
-        } else {
-            assert_eq!(account.tally.counts.len(), outcomes.len(), "{entry}: {:?}", account.tally.counts);
-        }
+        assert_eq!(account.tally.counts.len(), told.len(), "{entry}: {:?}", account.tally.counts);
     }
 }
 
@@ -175,12 +37,22 @@ fn plans_are_sound_and_one_rule_breaks_at_a_time() {
                 }
                 0..=12 => assert!(both_sound_and_equal(&input.area)),
                 14 | 15 => {
-                    let rule = 1 + (k / CALL_CASES) % 14;
+                    let rule = 1 + (k / CALL_CASES) % 18;
                     let broken = if k % CALL_CASES == 14 { 0 } else { 1 };
                     let copy = copy_of(&input.area, broken);
                     assert!(sound(copy_of(&input.area, 1 - broken)));
-                    let want = if rule == 11 && images(copy) == 1 { 0 } else { rule };
+                    let want = match rule {
+                        11 if images(copy) == 1 => 0,
+                        15 | 16 => 2,
+                        17 | 18 => 3,
+                        _ => rule,
+                    };
                     assert_eq!(first_failing_rule(copy) as u64, want, "call {call} input {k}");
+                    // With the counts out of the limits all else holds.
+                    if rule >= 15 {
+                        let others = RULES.iter().enumerate().filter(|&(place, _)| place as u64 + 1 != want);
+                        assert!(others.into_iter().all(|(_, rule)| rule(copy)), "call {call} input {k}");
+                    }
                 }
                 _ => {}
             }
@@ -291,19 +163,20 @@ fn the_place_is_the_lowest() {
 /// The digests after 1,000 inputs of seed 1. They move only with a recipe or with a rule.
 #[test]
 fn digests_as_they_stand() {
-    let stand: [(&str, u64, u64); 12] = [
+    let stand: [(&str, u64, u64); 13] = [
         ("gather", 0x6312795c, 0xb7d28e8b),
         ("capsule", 0xbf1803f4, 0xa1c0a09b),
-        ("start_up", 0x5a7e9fb3, 0x573fb85a),
-        ("repair", 0xfcbaf976, 0x4dad9727),
-        ("begin", 0xabcc9a46, 0x826a1c0b),
-        ("commit", 0x9922ada7, 0x99fdbfc8),
-        ("end", 0xb893fcb5, 0x3d5c8707),
-        ("cancel", 0x92f03def, 0xc37e1bb0),
-        ("accept", 0x70265e97, 0x2bbab324),
-        ("select_previous", 0x8d5fe94f, 0x31971f53),
-        ("sheet", 0x0b1f8355, 0xcd7f253f),
-        ("rules", 0x4cb942ad, 0xaee6fbf2),
+        ("start_up", 0x55bc7d13, 0xaa667d26),
+        ("repair", 0xa7a2eefb, 0x4ae29e35),
+        ("begin", 0x78dfb3dd, 0x9b359d6a),
+        ("commit", 0xe7a6af41, 0xbc82659c),
+        ("end", 0x23bcf7d3, 0x9ebded42),
+        ("cancel", 0x912f27c1, 0x89b93e8f),
+        ("accept", 0x572be857, 0x3bc270ab),
+        ("select_previous", 0x5fe2da54, 0x57ec8a40),
+        ("sheet", 0x980634b7, 0x7abffa25),
+        ("soundness", 0xcb121824, 0x1874a96d),
+        ("rules", 0xcb121824, 0x3475f319),
     ];
     for (entry, inputs, answers) in stand {
         let mut account = Account::default();

@@ -19,7 +19,7 @@ fn main() {
         "gather" => gather_input(seed, k).window,
         "capsule" => capsule_input(seed, k).capsule,
         "sheet" => call_input(0, seed, k).area,
-        "rules" => call_input(1, seed, k).area,
+        "soundness" | "rules" => call_input(1, seed, k).area,
         name => {
             let place = ENTRIES.iter().position(|&e| e == name).expect("an entry's name");
             call_input(place as u64 - 2, seed, k).area
