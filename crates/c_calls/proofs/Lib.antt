@@ -1,0 +1,2 @@
+-- What the proofs of the six calls share. Assumes nothing.
+pub mod Answers
