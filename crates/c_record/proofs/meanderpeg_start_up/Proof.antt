@@ -1,15 +1,8 @@
 -- `meanderpeg_start_up` meets its contract. Assumes nothing.
-use Prim.Native.Nat.{ℕ}
-use mathlib.Core.Path.{_≡_}
+use Rattle.c_session.proofs.Answers.{start-given}
 use borrow.Author.Needs.{needs}
-use Rattle.session.specs.Outcome.{Outcome}
-use Rattle.c_session.specs.Numbers.{exportedKind}
 use Rattle.c_record.proofs.meanderpeg_start_up.Statement.{statement}
 use Rattle.c_record.proofs.meanderpeg_start_up.Tie as tie
-
--- the entry's result, given on by `give_kind`
-start-given : (o result : Outcome) (kind : ℕ) (x : ℕ × ℕ) → o ≡ result → x ≡ exportedKind o kind → x ≡ exportedKind result kind
-start-given o result kind x e h = rw (← e) h
 
 start-up-requires : tie.Need-start-up-requires
 start-up-requires c κs = search needs

@@ -1,8 +1,8 @@
 -- `meanderpeg_end` meets its contract. Assumes nothing.
-use Rattle.c_calls.proofs.Answers.{end-given}
+use Rattle.c_session.proofs.Answers.{end-given}
 use borrow.Author.Needs.{needs}
-use Rattle.c_calls.proofs.meanderpeg_end.Statement.{statement}
-use Rattle.c_calls.proofs.meanderpeg_end.Tie as tie
+use Rattle.c_commit.proofs.meanderpeg_end.Statement.{statement}
+use Rattle.c_commit.proofs.meanderpeg_end.Tie as tie
 
 session-of-requires : tie.Need-session-of-requires
 session-of-requires c κs = search needs

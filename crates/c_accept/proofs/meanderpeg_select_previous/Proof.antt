@@ -1,8 +1,8 @@
 -- `meanderpeg_select_previous` meets its contract. Assumes nothing.
-use Rattle.c_calls.proofs.Answers.{call-given}
+use Rattle.c_session.proofs.Answers.{call-given}
 use borrow.Author.Needs.{needs}
-use Rattle.c_calls.proofs.meanderpeg_select_previous.Statement.{statement}
-use Rattle.c_calls.proofs.meanderpeg_select_previous.Tie as tie
+use Rattle.c_accept.proofs.meanderpeg_select_previous.Statement.{statement}
+use Rattle.c_accept.proofs.meanderpeg_select_previous.Tie as tie
 
 session-of-requires : tie.Need-session-of-requires
 session-of-requires c κs = search needs

@@ -1,8 +1,8 @@
 -- `meanderpeg_commit` meets its contract. Assumes nothing.
-use Rattle.c_calls.proofs.Answers.{call-given}
+use Rattle.c_session.proofs.Answers.{call-given}
 use borrow.Author.Needs.{needs}
-use Rattle.c_calls.proofs.meanderpeg_commit.Statement.{statement}
-use Rattle.c_calls.proofs.meanderpeg_commit.Tie as tie
+use Rattle.c_commit.proofs.meanderpeg_commit.Statement.{statement}
+use Rattle.c_commit.proofs.meanderpeg_commit.Tie as tie
 
 session-of-requires : tie.Need-session-of-requires
 session-of-requires c κs = search needs

@@ -1,8 +1,8 @@
 -- `meanderpeg_accept` meets its contract. Assumes nothing.
-use Rattle.c_calls.proofs.Answers.{call-given}
+use Rattle.c_session.proofs.Answers.{call-given}
 use borrow.Author.Needs.{needs}
-use Rattle.c_calls.proofs.meanderpeg_accept.Statement.{statement}
-use Rattle.c_calls.proofs.meanderpeg_accept.Tie as tie
+use Rattle.c_accept.proofs.meanderpeg_accept.Statement.{statement}
+use Rattle.c_accept.proofs.meanderpeg_accept.Tie as tie
 
 session-of-requires : tie.Need-session-of-requires
 session-of-requires c κs = search needs
