@@ -1,7 +1,7 @@
-/* Meanderpeg for C. Link the archive that `rt staticlib c_interface` writes.
+/* Meanderpeg for C. Link target/staticlib/libmeanderpeg.a, which `c/library` writes.
  *
- * What each function answers, and every byte and number lent as it is at return, is proved for all inputs (crates/c_interface). By
- * the language, and not by a clause: every function ends, none keeps memory or allocates, and none touches anything but what is lent
+ * What each function answers, and every byte and number lent as it is at return, is proved for all inputs (crates/c_*). By the
+ * language, and not by a clause: every function ends, none keeps memory or allocates, and none touches anything but what is lent
  * to it. This header is written by hand; c/run calls every function in it. Words in quotes are those of document 01.
  *
  * What a caller must see to, since no proof reaches it:

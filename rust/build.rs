@@ -1,5 +1,5 @@
-//! Where the proved library is linked from: `rt staticlib c_interface`, run at the repository's top, writes it. Another folder can
-//! be named in MEANDERPEG_LIBRARY_DIR.
+//! Where the proved library is linked from: `c/library` at the repository's top writes it. Another folder can be named in
+//! MEANDERPEG_LIBRARY_DIR.
 
 use std::env;
 use std::path::Path;
@@ -8,7 +8,7 @@ fn main() {
     println!("cargo::rerun-if-env-changed=MEANDERPEG_LIBRARY_DIR");
     let package = env::var("CARGO_MANIFEST_DIR").expect("cargo sets CARGO_MANIFEST_DIR");
     let folder = env::var("MEANDERPEG_LIBRARY_DIR").unwrap_or(format!("{package}/../target/staticlib"));
-    let library = Path::new(&folder).join("libc_interface.a");
+    let library = Path::new(&folder).join("libmeanderpeg.a");
     println!("cargo::rerun-if-changed={}", library.display());
     let target = env::var("CARGO_CFG_TARGET_ARCH").unwrap_or_default();
     if target != "x86_64" {
@@ -16,8 +16,8 @@ fn main() {
     }
     if !library.is_file() {
         println!("cargo::error={} is not there", library.display());
-        println!("cargo::error=`rt staticlib c_interface`, run at the repository's top, proves and writes it");
+        println!("cargo::error=`c/library` at the repository's top proves and writes it");
     }
     println!("cargo::rustc-link-search=native={folder}");
-    println!("cargo::rustc-link-lib=static=c_interface");
+    println!("cargo::rustc-link-lib=static=meanderpeg");
 }

@@ -1,7 +1,7 @@
-//! Meanderpeg for Rust: the functions of the proved library, which `rt staticlib c_interface` writes, with Rust's types. Words in
-//! quotes are those of document 01.
+//! Meanderpeg for Rust: the functions of the proved library, which `c/library` writes, with Rust's types. Words in quotes are
+//! those of document 01.
 //!
-//! What each function answers, and every byte that it leaves, is proved of the library for all inputs (crates/c_interface). What
+//! What each function answers, and every byte that it leaves, is proved of the library for all inputs (crates/c_*). What
 //! is proved of nothing: that the declarations in `raw` say what the library has, that the compilers are right, and what this
 //! package adds, which is only the change from numbers to types. Its tests compare all of it with a second implementation.
 //!

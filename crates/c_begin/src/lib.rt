@@ -1,0 +1,43 @@
+// The way in from C and Rust (include/meanderpeg.h): the calls Begin and Cancel. A slice passes as a pointer and a length, a number
+// behind a reference as a pointer. Each call takes the session as three numbers, lists the stores of the change, and sets the
+// next session's three numbers and the count of pairs. An answer of 0 is accepted, else it is the refusal's number, and then
+// what was lent is as it was.
+use c_session::give;
+use c_session::session_of;
+ghost use mathlib.Core.Path.{_≡_};
+ghost use Rattle.session.specs.Calls.{beginCall, cancelCall};
+ghost use Rattle.c_session.specs.Numbers.{sessionOf, exportedCall};
+
+// Opens a Staging session.
+#[no_mangle]
+pub extern "C" fn meanderpeg_begin(
+    kind: &mut u32,
+    bank: &mut u32,
+    set: &mut u32,
+    area: &[u8],
+    out: &mut [u32],
+    pairs: &mut usize,
+) -> u32
+    ensures { λ r. ⌜ ((r, (now (kind .exit), now (bank .exit), now (set .exit), now (pairs .exit))), now (out .exit)) ≡ exportedCall (beginCall (sessionOf (now (kind .entry)) (now (bank .entry)) (now (set .entry))) (now (area .entry)) (now (out .entry))) (now (kind .entry), now (bank .entry), now (set .entry), now (pairs .entry)) ⌝ }
+{
+    let session = session_of(*kind, *bank, *set);
+    let answer = session.begin(area, out);
+    give(answer, kind, bank, set, pairs)
+}
+
+// Lists no store.
+#[no_mangle]
+pub extern "C" fn meanderpeg_cancel(
+    kind: &mut u32,
+    bank: &mut u32,
+    set: &mut u32,
+    area: &[u8],
+    out: &mut [u32],
+    pairs: &mut usize,
+) -> u32
+    ensures { λ r. ⌜ ((r, (now (kind .exit), now (bank .exit), now (set .exit), now (pairs .exit))), now (out .exit)) ≡ exportedCall (cancelCall (sessionOf (now (kind .entry)) (now (bank .entry)) (now (set .entry))) (now (area .entry)) (now (out .entry))) (now (kind .entry), now (bank .entry), now (set .entry), now (pairs .entry)) ⌝ }
+{
+    let session = session_of(*kind, *bank, *set);
+    let answer = session.cancel(area, out);
+    give(answer, kind, bank, set, pairs)
+}

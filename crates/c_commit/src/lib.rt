@@ -1,0 +1,46 @@
+// The way in from C and Rust (include/meanderpeg.h): the calls Commit and End. Each passes and answers as those of crate `c_begin`
+// do, an array of 16 bytes as a pointer.
+use c_session::give;
+use c_session::give_missing;
+use c_session::session_of;
+ghost use mathlib.Core.Path.{_≡_};
+ghost use Rattle.session.specs.Calls.{commitCall, endCall};
+ghost use Rattle.c_session.specs.Numbers.{sessionOf, exportedCall, exportedEnd};
+
+// By type GUID and a request.
+#[no_mangle]
+pub extern "C" fn meanderpeg_commit(
+    kind: &mut u32,
+    bank: &mut u32,
+    set: &mut u32,
+    area: &[u8],
+    guid: &[u8; 16],
+    request: u32,
+    out: &mut [u32],
+    pairs: &mut usize,
+) -> u32
+    ensures { λ r. ⌜ ((r, (now (kind .exit), now (bank .exit), now (set .exit), now (pairs .exit))), now (out .exit)) ≡ exportedCall (commitCall (sessionOf (now (kind .entry)) (now (bank .entry)) (now (set .entry))) (now (guid .entry)) request (now (area .entry)) (now (out .entry))) (now (kind .entry), now (bank .entry), now (set .entry), now (pairs .entry)) ⌝ }
+{
+    let session = session_of(*kind, *bank, *set);
+    let answer = session.commit(area, *guid, request, out);
+    give(answer, kind, bank, set, pairs)
+}
+
+// 27 sets `missing`, and nothing else that was lent.
+#[no_mangle]
+pub extern "C" fn meanderpeg_end(
+    kind: &mut u32,
+    bank: &mut u32,
+    set: &mut u32,
+    area: &[u8],
+    out: &mut [u32],
+    pairs: &mut usize,
+    missing: &mut u32,
+) -> u32
+    ensures { λ r. ⌜ ((r, (now (kind .exit), now (bank .exit), now (set .exit), now (pairs .exit))), now (missing .exit), now (out .exit)) ≡ exportedEnd (endCall (sessionOf (now (kind .entry)) (now (bank .entry)) (now (set .entry))) (now (area .entry)) (now (out .entry))) (now (kind .entry), now (bank .entry), now (set .entry), now (pairs .entry)) (now (missing .entry)) ⌝ }
+{
+    let session = session_of(*kind, *bank, *set);
+    let answer = session.end(area, out);
+    give_missing(answer, missing);
+    give(answer, kind, bank, set, pairs)
+}
