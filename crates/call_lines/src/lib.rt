@@ -17,7 +17,6 @@ use changes::list_exchange;
 use refusals::Refusal;
 ghost use mathlib.Core.Path.{_≡_};
 ghost use Prim.Native.Nat.{_<_, _^_};
-ghost use lib.ListN.{length};
 ghost use Rattle.record.specs.Layout.{recordOf, copy0, imageCount};
 ghost use Rattle.alterations.specs.Altered.{Changeable};
 ghost use Rattle.call_lines.specs.Lines.{stagedGate, begun, committed, ended, acceptedOne, selected};
@@ -65,14 +64,14 @@ pub fn commit_line(
     area: &[u8],
     bank: u32,
     set: u32,
-    guid: &[u8],
+    guid: [u8; 16],
     request: u32,
     out: &mut [u32],
 ) -> Line
-    requires { ⌜ Changeable (now area) (now out) × (length (now guid) ≡ 16) ⌝ }
-    ensures { λ l. ⌜ (l, now (out .exit)) ≡ committed bank set (now (guid .entry)) request (now (area .entry)) (now (out .entry)) ⌝ }
+    requires { ⌜ Changeable (now area) (now out) ⌝ }
+    ensures { λ l. ⌜ (l, now (out .exit)) ≡ committed bank set guid request (now (area .entry)) (now (out .entry)) ⌝ }
 {
-    let i = image_in(area, guid);
+    let i = image_in(area, &guid);
     if image_count_in(area) <= i {
         return Line::Refused(Refusal::NoImage);
     }
@@ -98,11 +97,11 @@ pub fn end_line(area: &[u8], set: u32, out: &mut [u32]) -> Line
 }
 
 // Accept's stores, or 26; "when all are, .. the session Regular".
-pub fn accept_line(area: &[u8], guid: &[u8], out: &mut [u32]) -> Line
-    requires { ⌜ Changeable (now area) (now out) × (length (now guid) ≡ 16) ⌝ }
-    ensures { λ l. ⌜ (l, now (out .exit)) ≡ acceptedOne (now (guid .entry)) (now (area .entry)) (now (out .entry)) ⌝ }
+pub fn accept_line(area: &[u8], guid: [u8; 16], out: &mut [u32]) -> Line
+    requires { ⌜ Changeable (now area) (now out) ⌝ }
+    ensures { λ l. ⌜ (l, now (out .exit)) ≡ acceptedOne guid (now (area .entry)) (now (out .entry)) ⌝ }
 {
-    let i = image_in(area, guid);
+    let i = image_in(area, &guid);
     if image_count_in(area) <= i {
         return Line::Refused(Refusal::NoImage);
     }

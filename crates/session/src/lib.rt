@@ -135,7 +135,7 @@ impl Session {
         let Session::Staging { bank, set } = self else {
             return self.not_named();
         };
-        self.answered(commit_line(area, bank, set, &guid, request, out))
+        self.answered(commit_line(area, bank, set, guid, request, out))
     }
 
     // "End (Staging)".
@@ -177,7 +177,7 @@ impl Session {
         let Session::Trial = self else {
             return self.not_named();
         };
-        self.answered(accept_line(area, &guid, out))
+        self.answered(accept_line(area, guid, out))
     }
 
     // "Select previous (Trial, Fallback)".

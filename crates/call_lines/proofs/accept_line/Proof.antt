@@ -7,6 +7,9 @@ use borrow.Author.Needs.{needs}
 use Rattle.call_lines.proofs.accept_line.Statement.{statement}
 use Rattle.call_lines.proofs.accept_line.Tie as tie
 
+slice-aggregate-image-in : tie.Need-slice-aggregate-image-in
+slice-aggregate-image-in c = search needs
+
 image-in-requires : tie.Need-image-in-requires
 image-in-requires c κs = search needs
 
@@ -17,7 +20,7 @@ returns : tie.Need-returns
 returns c =
     let n = c .before in
     let s = c .before .before .before .before .before .before in
-    not-accepted (s .args .guid .now) (s .args .area .now) (s .args .out .now)
+    not-accepted (s .args .t2) (s .args .area .now) (s .args .out .now)
     (omega (arith, n .before .image-in .ensures, n .image-count-in .ensures .0, c .if1 .taken))
 
 all-accepted-in-requires : tie.Need-all-accepted-in-requires
@@ -37,7 +40,7 @@ returns-2 c =
     let e = t .before in
     let i = e .before .before .image-in in
     let s = e .before .before .before .before .before .before in
-    was-accepted _ (i .result) _ (s .args .guid .now) (s .args .area .now) (s .args .out .now) _
+    was-accepted _ (i .result) _ (s .args .t2) (s .args .area .now) (s .args .out .now) _
     (rw (sym (t .all-accepted-in .ensures) ∙ c .if2 .taken)) (i .ensures)
     (omega (arith, e .before .image-count-in .ensures .0, e .if1 .left)) (n .list-accept .ensures)
 
@@ -52,7 +55,7 @@ returns-3 c =
     let e = t .before in
     let i = e .before .before .image-in in
     let s = e .before .before .before .before .before .before in
-    was-accepted _ (i .result) _ (s .args .guid .now) (s .args .area .now) (s .args .out .now) _
+    was-accepted _ (i .result) _ (s .args .t2) (s .args .area .now) (s .args .out .now) _
     (rw (sym (t .all-accepted-in .ensures) ∙ c .if2 .left)) (i .ensures)
     (omega (arith, e .before .image-count-in .ensures .0, e .if1 .left)) (n .list-accept .ensures)
 
@@ -60,6 +63,7 @@ pub accept-line-spec : {M : Type 1} → statement M
 accept-line-spec =
     tie.close
     (tie.spec
+    slice-aggregate-image-in
     image-in-requires
     image-count-in-requires
     returns

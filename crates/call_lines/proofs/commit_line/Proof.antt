@@ -5,6 +5,9 @@ use borrow.Author.Needs.{needs}
 use Rattle.call_lines.proofs.commit_line.Statement.{statement}
 use Rattle.call_lines.proofs.commit_line.Tie as tie
 
+slice-aggregate-image-in : tie.Need-slice-aggregate-image-in
+slice-aggregate-image-in c = search needs
+
 image-in-requires : tie.Need-image-in-requires
 image-in-requires c κs = search needs
 
@@ -15,7 +18,7 @@ returns : tie.Need-returns
 returns c =
     let n = c .before in
     let s = c .before .before .before .before .before .before in
-    not-committed (s .args .bank) (s .args .set) (s .args .request) (s .args .guid .now) (s .args .area .now) (s .args .out .now)
+    not-committed (s .args .bank) (s .args .set) (s .args .request) (s .args .t4) (s .args .area .now) (s .args .out .now)
     (omega (arith, n .before .image-in .ensures, n .image-count-in .ensures .0, c .if1 .taken))
 
 cast-joined : tie.Need-cast-joined
@@ -37,13 +40,14 @@ returns-2 c =
     let k = e .before .image-count-in .ensures in
     let i = e .before .before .image-in in
     let s = e .before .before .before .before .before .before in
-    was-committed (s .args .bank) (s .args .set) (s .args .request) (i .result) _ (s .args .guid .now) (s .args .area .now) (s .args .out .now) _ (i .ensures)
+    was-committed (s .args .bank) (s .args .set) (s .args .request) (i .result) _ (s .args .t4) (s .args .area .now) (s .args .out .now) _ (i .ensures)
     (omega (arith, k .0, e .if1 .left)) (omega (arith, k .1, e .if1 .left)) (n .list-commit .ensures)
 
 pub commit-line-spec : {M : Type 1} → statement M
 commit-line-spec =
     tie.close
     (tie.spec
+    slice-aggregate-image-in
     image-in-requires
     image-count-in-requires
     returns

@@ -50,17 +50,14 @@ returns-2 c =
     let t = c .before .before in
     let s = t .before .before .before .before .before in
     rw (c .not-named .ensures)
-    (no-accept (s .args .self) (s .args .t3) (s .args .area .now) (s .args .out .now) (c .before .match2 .keys2)
+    (no-accept (s .args .self) (s .args .guid) (s .args .area .now) (s .args .out .now) (c .before .match2 .keys2)
     ∙ called-accepted (s .args .self) (s .args .area .now) (s .args .out .now) _ (allowed t))
-
-slice-aggregate-accept-line : tie.Need-slice-aggregate-accept-line
-slice-aggregate-accept-line c = search needs
 
 accept-line-requires : tie.Need-accept-line-requires
 accept-line-requires c κs =
-    let t = c .before .before .before .before in
+    let t = c .before .before .before in
     let s = t .before .before .before .before .before in
-    (admitted (s .args .self) (s .args .area .now) (s .args .out .now) (allowed t) .change, search needs)
+    admitted (s .args .self) (s .args .area .now) (s .args .out .now) (allowed t) .change
 
 answered-requires : tie.Need-answered-requires
 answered-requires c κs = search needs
@@ -72,13 +69,13 @@ returns-3 : tie.Need-returns-3
 unfolding acceptCall
 returns-3 c =
     let l = c .before .before .before in
-    let v = l .before .before .before in
+    let v = l .before .before in
     let t = v .before .before in
     let s = t .before .before .before .before .before in
     rw (c .answered .ensures)
     (led (s .args .self) (s .args .self) (s .args .area .now) (s .args .out .now) _ _
-    (λ (q : Session). acceptLine q (s .args .t3) (s .args .area .now) (s .args .out .now)) refl (l .accept-line .ensures)
-    (accept-line (s .args .self) (s .args .t3) (s .args .area .now) (s .args .out .now) (v .enum-told2 .given .1)) (allowed t))
+    (λ (q : Session). acceptLine q (s .args .guid) (s .args .area .now) (s .args .out .now)) refl (l .accept-line .ensures)
+    (accept-line (s .args .self) (s .args .guid) (s .args .area .now) (s .args .out .now) (v .enum-told2 .given .1)) (allowed t))
 
 pub accept-spec : {M : Type 1} → statement M
 accept-spec =
@@ -92,7 +89,6 @@ accept-spec =
     enum-told-2
     not-named-requires
     returns-2
-    slice-aggregate-accept-line
     accept-line-requires
     answered-requires
     same-length

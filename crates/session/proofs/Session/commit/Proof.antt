@@ -51,17 +51,14 @@ returns-2 c =
     let t = c .before .before in
     let s = t .before .before .before .before .before in
     rw (c .not-named .ensures)
-    (no-commit (s .args .self) (s .args .t3) (s .args .request) (s .args .area .now) (s .args .out .now) (c .before .match2 .keys2)
+    (no-commit (s .args .self) (s .args .guid) (s .args .request) (s .args .area .now) (s .args .out .now) (c .before .match2 .keys2)
     ∙ called-accepted (s .args .self) (s .args .area .now) (s .args .out .now) _ (allowed t))
-
-slice-aggregate-commit-line : tie.Need-slice-aggregate-commit-line
-slice-aggregate-commit-line c = search needs
 
 commit-line-requires : tie.Need-commit-line-requires
 commit-line-requires c κs =
-    let t = c .before .before .before .before .before in
+    let t = c .before .before .before .before in
     let s = t .before .before .before .before .before in
-    (admitted (s .args .self) (s .args .area .now) (s .args .out .now) (allowed t) .change, search needs)
+    admitted (s .args .self) (s .args .area .now) (s .args .out .now) (allowed t) .change
 
 answered-requires : tie.Need-answered-requires
 answered-requires c κs = search needs
@@ -73,15 +70,15 @@ returns-3 : tie.Need-returns-3
 unfolding commitCall
 returns-3 c =
     let l = c .before .before .before in
-    let v = l .before .before .before .before in
+    let v = l .before .before .before in
     let t = v .before .before in
     let s = t .before .before .before .before .before in
     let bank = v .self .given .0 .0 in
     let set = v .self .given .0 .1 .0 in
     rw (c .answered .ensures)
     (led (s .args .self) (Staging bank set) (s .args .area .now) (s .args .out .now) _ _
-    (λ (q : Session). commitLine q (s .args .t3) (s .args .request) (s .args .area .now) (s .args .out .now)) (v .self .given .1) (l .commit-line .ensures)
-    (commit-line bank set (s .args .request) (s .args .t3) (s .args .area .now) (s .args .out .now)) (allowed t))
+    (λ (q : Session). commitLine q (s .args .guid) (s .args .request) (s .args .area .now) (s .args .out .now)) (v .self .given .1) (l .commit-line .ensures)
+    (commit-line bank set (s .args .request) (s .args .guid) (s .args .area .now) (s .args .out .now)) (allowed t))
 
 pub commit-spec : {M : Type 1} → statement M
 commit-spec =
@@ -95,7 +92,6 @@ commit-spec =
     enum-known-self
     not-named-requires
     returns-2
-    slice-aggregate-commit-line
     commit-line-requires
     answered-requires
     same-length
