@@ -1,2 +1,2 @@
--- Laws of the lines, for the proofs here and in crate session.
+-- Laws of the lines, for the proofs here.
 pub mod Lines

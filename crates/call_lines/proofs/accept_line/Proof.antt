@@ -1,5 +1,5 @@
 -- `accept_line` meets its contract. Assumes nothing.
-use mathlib.Core.Path.{_≡_, sym, _∙_}
+use mathlib.Core.Path.{sym, _∙_}
 use native.Mathlib.Omega.{arith}
 use Rattle.call_lines.specs.Lines.{afterAccept}
 use Rattle.call_lines.proofs.Lines.{not-accepted, was-accepted}
