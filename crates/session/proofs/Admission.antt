@@ -16,14 +16,19 @@ use Rattle.admission.specs.declared.Gate.{Gate}
 use Rattle.admission.specs.declared.Gate.the-variants.{Open, Shut}
 use Rattle.admission.specs.Gates.{areaGate, equalGate, setFits}
 use Rattle.admission.proofs.Gates.{gate-open, set-below}
+use Rattle.call_lines.specs.Lines.{andThen, stagedGate}
 use Rattle.session.specs.declared.Session.{Session}
 use Rattle.session.specs.declared.Session.the-variants.{Staging}
 use Rattle.session.specs.Outcome.{Decision, accepted, refused, refusedWith}
 use Rattle.session.specs.Calls.{Result, held, stagingFits, admission, ifAdmitted, called}
-use Rattle.session.specs.Admitted.{Admitted, stagingAdmission}
+use Rattle.session.specs.Admitted.{Admitted, gateDecision}
+
+-- 24: what is left of `admission` where area, slice and copies are right
+stagingDecision : Session → (a : List ℕ) → Decision
+stagingDecision q a = cond (not (stagingFits q (held a))) (refused StagingFault) accepted
 
 -- a gate that is shut refuses with what it is shut by; past an open one there is 24 left
-pub decided : Gate → (rest : Decision) → Decision
+decided : Gate → (rest : Decision) → Decision
 decided Open rest = rest
 decided (Shut why) rest = refused why
 
@@ -37,19 +42,46 @@ by-gate true false false y rest = refl
 by-gate true false true false rest = refl
 by-gate true false true true rest = refl
 
-pub admission-by-gate : (q : Session) (a : List ℕ) (n : ℕ) → decided (areaGate a n) (stagingAdmission q a) ≡ admission q a n
-unfolding admission areaGate equalGate stagingAdmission
+admission-by-gate : (q : Session) (a : List ℕ) (n : ℕ) → decided (areaGate a n) (stagingDecision q a) ≡ admission q a n
+unfolding admission areaGate equalGate stagingDecision
 admission-by-gate q a n =
     by-gate (eqb (length a) areaSize) (ltb n storeNumbers) (soundCopy (copy0 a) || soundCopy (copy1 a)) (soundAndEqual a)
     (cond (not (stagingFits q (held a))) (refused StagingFault) accepted)
 
-pub shut-refuses : (q : Session) (a : List ℕ) (n : ℕ) (why : Refusal) → Shut why ≡ areaGate a n → refused why ≡ admission q a n
-unfolding decided
-shut-refuses q a n why e = ap (λ (g : Gate). decided g (stagingAdmission q a)) e ∙ admission-by-gate q a n
+-- 24 of a Staging session, by its bank and set
+staged-fits : (bank set : ℕ) (r : List ℕ) → setFits bank set r ≡ stagingFits (Staging bank set) r
+unfolding setFits stagingFits
+staged-fits bank set r = refl
 
-pub open-leaves : (q : Session) (a : List ℕ) (n : ℕ) → Open ≡ areaGate a n → stagingAdmission q a ≡ admission q a n
+pub staged-below : (bank set : ℕ) (r : List ℕ) → stagingFits (Staging bank set) r ≡ true → set < 2 ^ imageCount r
+staged-below bank set r e = set-below bank set r (staged-fits bank set r ∙ e)
+
+then-decided : (g : Gate) (b : Bool)
+    → gateDecision (andThen g (cond (not b) (Shut StagingFault) Open)) ≡ decided g (cond (not b) (refused StagingFault) accepted)
+unfolding andThen decided
+then-decided Open true = refl
+then-decided Open false = refl
+then-decided (Shut why) b = refl
+
+pub staged-admission : (bank set : ℕ) (a : List ℕ) (n : ℕ) → gateDecision (stagedGate bank set a n) ≡ admission (Staging bank set) a n
+unfolding stagedGate stagingDecision
+staged-admission bank set a n =
+    then-decided (areaGate a n) (setFits bank set (held a))
+    ∙ ap (λ (b : Bool). decided (areaGate a n) (cond (not b) (refused StagingFault) accepted)) (staged-fits bank set (held a))
+    ∙ admission-by-gate (Staging bank set) a n
+
+-- the gate of area and slice alone decides for any other session
+alone : (g : Gate) → gateDecision g ≡ decided g accepted
 unfolding decided
-open-leaves q a n e = ap (λ (g : Gate). decided g (stagingAdmission q a)) e ∙ admission-by-gate q a n
+alone Open = refl
+alone (Shut why) = refl
+
+pub other-admission : (q : Session) (a : List ℕ) (n : ℕ) → true ≡ stagingFits q (held a) → gateDecision (areaGate a n) ≡ admission q a n
+unfolding stagingDecision
+other-admission q a n e =
+    alone (areaGate a n)
+    ∙ ap (λ (b : Bool). decided (areaGate a n) (cond (not b) (refused StagingFault) accepted)) e
+    ∙ admission-by-gate q a n
 
 -- a call that is admitted
 opened : (g : Gate) (rest : Decision) → accepted ≡ decided g rest → (g ≡ Open) × (accepted ≡ rest)
@@ -62,19 +94,14 @@ fitting true e = refl
 fitting false e = let q : _≡_ {A = ℕ} 0 1 = cc in absurd (omega arith)
 
 pub admitted : (q : Session) (a s : List ℕ) → accepted ≡ admission q a (length s) → Admitted q a s
-unfolding stagingAdmission
+unfolding stagingDecision
 admitted q a s e =
-    let p = opened (areaGate a (length s)) (stagingAdmission q a) (e ∙ sym (admission-by-gate q a (length s))) in
+    let p = opened (areaGate a (length s)) (stagingDecision q a) (e ∙ sym (admission-by-gate q a (length s))) in
     let o = gate-open a (length s) (p .0) in
     record { change = record { long = o .0; equal = o .1; room = o .2 }; staging = fitting (stagingFits q (held a)) (p .1) }
 
--- 24 of a Staging session, by its bank and set
-pub staged-fits : (bank set : ℕ) (r : List ℕ) → setFits bank set r ≡ stagingFits (Staging bank set) r
-unfolding setFits stagingFits
-staged-fits bank set r = refl
-
-pub staged-below : (bank set : ℕ) (r : List ℕ) → stagingFits (Staging bank set) r ≡ true → set < 2 ^ imageCount r
-staged-below bank set r e = set-below bank set r (staged-fits bank set r ∙ e)
+pub admitted-below : (q : Session) (bank set : ℕ) (a s : List ℕ) → q ≡ Staging bank set → Admitted q a s → set < 2 ^ imageCount (held a)
+admitted-below q bank set a s e p = staged-below bank set (held a) (ap (λ (x : Session). stagingFits x (held a)) (sym e) ∙ p .staging)
 
 -- a call's result, admitted or not
 pub called-accepted : (q : Session) (a s : List ℕ) (own : Result) → accepted ≡ admission q a (length s) → own ≡ called q a s own

@@ -1,13 +1,17 @@
--- What the functions of a call ask of each other. Nothing here is needed to read an entry's promise. q is the session given, a the bytes of the
--- area, s the numbers of the store slice. Assumes nothing.
+-- What the functions of a call ask of each other and answer. Nothing here is needed to read an entry's promise. q is the session given, a the bytes
+-- of the area, s the numbers of the store slice. Assumes nothing.
 use Prim.Native.Nat.{ℕ}
-use mathlib.Core.Bool.{true, cond, not}
+use mathlib.Core.Bool.{true}
 use mathlib.Core.List.{List}
 use mathlib.Core.Path.{_≡_}
-use Rattle.refusals.specs.declared.Refusal.the-variants.{StagingFault}
 use Rattle.alterations.specs.Altered.{Changeable}
+use Rattle.admission.specs.declared.Gate.{Gate}
+use Rattle.admission.specs.declared.Gate.the-variants.{Open, Shut}
+use Rattle.call_lines.specs.declared.Line.{Line}
+use Rattle.call_lines.specs.declared.Line.the-variants as line
 use Rattle.session.specs.declared.Session.{Session}
-use Rattle.session.specs.Outcome.{Decision, accepted, refused}
+use Rattle.session.specs.declared.Session.the-variants.{Regular, Staging, Trial, Restart}
+use Rattle.session.specs.Outcome.{Decision, accepted, refused, Outcome, refusedWith, acceptedWith}
 use Rattle.session.specs.Calls.{held, stagingFits}
 
 -- a call that none of 20, 23, 21, 22 and 24 refuses
@@ -15,6 +19,15 @@ pub record Admitted (q : Session) (a s : List ℕ) : Type 0 where
   pub change : Changeable a s
   pub staging : stagingFits q (held a) ≡ true
 
--- 24: what is left of `admission` where area, slice and copies are right
-unfoldable pub stagingAdmission : Session → (a : List ℕ) → Decision
-stagingAdmission q a = cond (not (stagingFits q (held a))) (refused StagingFault) accepted
+-- what a gate decides
+abbrev pub gateDecision : Gate → Decision
+gateDecision Open = accepted
+gateDecision (Shut why) = refused why
+
+-- what the answer to a line states
+abbrev pub lineOutcome : Session → Line → Outcome
+lineOutcome q (line.Refused why) = refusedWith q why
+lineOutcome q (line.Regular n) = acceptedWith Regular n
+lineOutcome q (line.Staging bank set n) = acceptedWith (Staging bank set) n
+lineOutcome q (line.Trial n) = acceptedWith Trial n
+lineOutcome q (line.Restart n) = acceptedWith Restart n

@@ -1,0 +1,2 @@
+-- Each call's own line, over numbers. Assumes nothing.
+pub mod Lines
