@@ -5,7 +5,7 @@ mod areas;
 mod tally;
 
 use areas::keep;
-use areas::keep_record;
+use areas::move_record;
 use areas::restore;
 use areas::seen;
 use areas::settled;
@@ -126,18 +126,10 @@ fn cuts(a: &mut [u8], pair: &[u8], list: &[u32], all: usize) -> Tally {
 fn keep_pair(pair: &mut [u8], a: &mut [u8], list: &[u32], all: usize) {
     let mut from = [0u8; 1280];
     keep(&mut from, a);
-    keep_record(pair, 0, a);
+    move_record(pair, 0, a, 0);
     apply(a, list, all);
-    keep_record(pair, 640, a);
+    move_record(pair, 640, a, 0);
     restore(a, &from);
-}
-
-fn count_of(stores: usize) -> u32 {
-    if stores < 4294967296 {
-        stores as u32
-    } else {
-        0
-    }
 }
 
 // The change that a line's call makes.
@@ -154,51 +146,31 @@ fn simulate(case: Case, line: Line, a: &mut [u8]) {
     shown::show_name(letter);
     shown::text(b"\t");
     shown::show_start(r);
-    shown::column(count_of(all));
+    shown::column(all as u64);
     tally::show(t);
     shown::text(b"\n");
 }
 
-fn line_done(case: Case, line: Line, a: &mut [u8]) -> Case {
-    let letter = line.letter;
-    match letter {
-        b'B' | b'C' | b'E' | b'X' | b'A' | b'P' => {
-            simulate(case, line, a);
-            case
-        }
-        _ => cases::step(case, line, a),
+// A byte of the script behind a step: where it ends the step, that is done.
+fn read(case: Case, line: Line, b: u8, a: &mut [u8]) -> Case {
+    if !script::is_end(b) {
+        return case;
     }
-}
-
-// A case, and the line that is being read.
-struct Reading {
-    case: Case,
-    line: Line,
-}
-
-// A byte of the script more.
-fn byte_read(now: Reading, b: u8, a: &mut [u8]) -> Reading {
-    let case = now.case;
-    let line = now.line;
-    if b == b'\n' {
-        let next = line_done(case, line, a);
-        let none = script::empty();
-        return Reading {
-            case: next,
-            line: none,
-        };
+    if cases::is_call(line.letter) {
+        simulate(case, line, a);
+        return case;
     }
-    let longer = shown::read(line, b);
-    Reading { case, line: longer }
+    cases::step(case, line, a)
 }
 
 fn run(s: &[u8], a: &mut [u8]) {
-    let case = cases::first_case();
-    let line = script::empty();
-    let mut now = Reading { case, line };
+    let mut case = cases::first_case(false);
+    let mut line = script::empty();
     let mut i = 0;
     while i < s.len() {
-        now = byte_read(now, s[i], a);
+        let b = s[i];
+        case = read(case, line, b, a);
+        line = shown::read(line, b);
         i += 1;
     }
 }
