@@ -16,6 +16,7 @@ use record_cases::cases::Case;
 use record_cases::script;
 use record_cases::script::Line;
 use record_cases::shown;
+use session::Answer;
 use tally::Tally;
 
 // A read after a repair's cut: the same record as before, and if the repair has finished both copies sound and equal.
@@ -40,24 +41,35 @@ fn second_cut(
     read_again(a, pair, before, n == all, t)
 }
 
-// The second repair, at every cut.
-fn second(a: &mut [u8], pair: &[u8], before: u32, t: Tally) -> Tally {
-    let mut from = [0u8; 1280];
-    keep(&mut from, a);
-    let mut list = [0u32; 4200];
-    let r = repair::repair(a, &mut list);
-    let all = r.stores;
-    let mut now = tally::repair(t);
+// The second repair, at every cut; `from` is the area before it.
+fn second_cuts(
+    a: &mut [u8],
+    from: &[u8],
+    pair: &[u8],
+    before: u32,
+    list: &[u32],
+    all: usize,
+    t: Tally,
+) -> Tally {
+    let mut now = t;
     if 2100 < all {
         return now;
     }
     let mut n = 0;
     while n <= all {
-        restore(a, &from);
-        now = second_cut(a, pair, before, &list, all, n, now);
+        restore(a, from);
+        now = second_cut(a, pair, before, list, all, n, now);
         n += 1;
     }
     now
+}
+
+fn second(a: &mut [u8], pair: &[u8], before: u32, t: Tally) -> Tally {
+    let mut from = [0u8; 1280];
+    keep(&mut from, a);
+    let mut list = [0u32; 4200];
+    let r = repair::repair(a, &mut list);
+    second_cuts(a, &from, pair, before, &list, r.stores, tally::repair(t))
 }
 
 // The first repair, cut after n of its stores, and the second one behind it.
@@ -76,23 +88,34 @@ fn first_cut(
 }
 
 // The first repair, at every cut.
-fn first(a: &mut [u8], pair: &[u8], before: u32, t: Tally) -> Tally {
-    let mut from = [0u8; 1280];
-    keep(&mut from, a);
-    let mut list = [0u32; 4200];
-    let r = repair::repair(a, &mut list);
-    let all = r.stores;
-    let mut now = tally::repair(t);
+fn first_cuts(
+    a: &mut [u8],
+    from: &[u8],
+    pair: &[u8],
+    before: u32,
+    list: &[u32],
+    all: usize,
+    t: Tally,
+) -> Tally {
+    let mut now = t;
     if 2100 < all {
         return now;
     }
     let mut n = 0;
     while n <= all {
-        restore(a, &from);
-        now = first_cut(a, pair, before, &list, all, n, now);
+        restore(a, from);
+        now = first_cut(a, pair, before, list, all, n, now);
         n += 1;
     }
     now
+}
+
+fn first(a: &mut [u8], pair: &[u8], before: u32, t: Tally) -> Tally {
+    let mut from = [0u8; 1280];
+    keep(&mut from, a);
+    let mut list = [0u32; 4200];
+    let r = repair::repair(a, &mut list);
+    first_cuts(a, &from, pair, before, &list, r.stores, tally::repair(t))
 }
 
 // The change, cut after n of its stores, and the repairs behind it.
@@ -105,50 +128,53 @@ fn change_cut(a: &mut [u8], pair: &[u8], list: &[u32], n: usize, t: Tally) -> Ta
 }
 
 // The change at every cut; at the end the area is as it was.
-fn cuts(a: &mut [u8], pair: &[u8], list: &[u32], all: usize) -> Tally {
-    let mut from = [0u8; 1280];
-    keep(&mut from, a);
+fn cuts(a: &mut [u8], from: &[u8], pair: &[u8], list: &[u32], all: usize) -> Tally {
     let mut now = tally::none();
     if 2100 < all {
         return now;
     }
     let mut n = 0;
     while n <= all {
-        restore(a, &from);
+        restore(a, from);
         now = change_cut(a, pair, list, n, now);
         n += 1;
     }
-    restore(a, &from);
+    restore(a, from);
     now
 }
 
-// The old record and the new one, the area as it was.
+// The old record and the new one, which the area holds then.
 fn keep_pair(pair: &mut [u8], a: &mut [u8], list: &[u32], all: usize) {
-    let mut from = [0u8; 1280];
-    keep(&mut from, a);
     move_record(pair, 0, a, 0);
     apply(a, list, all);
     move_record(pair, 640, a, 0);
-    restore(a, &from);
+}
+
+fn change(a: &mut [u8], list: &[u32], all: usize) -> Tally {
+    let mut from = [0u8; 1280];
+    keep(&mut from, a);
+    let mut pair = [0u8; 1280];
+    keep_pair(&mut pair, a, list, all);
+    cuts(a, &from, &pair, list, all)
+}
+
+fn show_change(letter: u8, r: Answer, t: Tally) {
+    shown::text(b"\t");
+    shown::show_name(letter);
+    shown::text(b"\t");
+    shown::show_start(r);
+    shown::column(r.stores as u64);
+    tally::show(t);
+    shown::text(b"\n");
 }
 
 // The change that a line's call makes.
 fn simulate(case: Case, line: Line, a: &mut [u8]) {
     let session = case.session;
-    let letter = line.letter;
     let mut list = [0u32; 4200];
     let r = cases::call(session, line, a, &mut list);
-    let all = r.stores;
-    let mut pair = [0u8; 1280];
-    keep_pair(&mut pair, a, &list, all);
-    let t = cuts(a, &pair, &list, all);
-    shown::text(b"\t");
-    shown::show_name(letter);
-    shown::text(b"\t");
-    shown::show_start(r);
-    shown::column(all as u64);
-    tally::show(t);
-    shown::text(b"\n");
+    let t = change(a, &list, r.stores);
+    show_change(line.letter, r, t);
 }
 
 // A byte of the script behind a step: where it ends the step, that is done.
