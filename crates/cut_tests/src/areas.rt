@@ -6,6 +6,7 @@ use record_cases::areas::word;
 use session::Answer;
 use session::Session;
 use session::Verdict;
+ghost use Prim.Native.Nat.{_≤_};
 
 // Puts the byte at f of `from` to t of `to`, where both are.
 fn move_byte(to: &mut [u8], t: usize, from: &[u8], f: usize) {
@@ -16,40 +17,33 @@ fn move_byte(to: &mut [u8], t: usize, from: &[u8], f: usize) {
     }
 }
 
-// Keeps 640 bytes of each copy, more than any record here has.
-pub fn keep(kept: &mut [u8], a: &[u8]) {
-    let mut i = 0;
+// The 640 bytes at f of `from` to t of `to`: more than any record here has.
+pub fn move_record(to: &mut [u8], t: usize, from: &[u8], f: usize)
+    requires { ⌜ (t ≤ 16384) × (f ≤ 16384) ⌝ }
+{
+    let mut i: usize = 0;
     while i < 640 {
-        move_byte(kept, i, a, i);
-        move_byte(kept, 640 + i, a, 8192 + i);
+        move_byte(to, t + i, from, f + i);
         i += 1;
     }
+}
+
+// Keeps the record of each copy.
+pub fn keep(kept: &mut [u8], a: &[u8]) {
+    move_record(kept, 0, a, 0);
+    move_record(kept, 640, a, 8192);
 }
 
 // Puts back what was kept.
 pub fn restore(a: &mut [u8], kept: &[u8]) {
-    let mut i = 0;
-    while i < 640 {
-        move_byte(a, i, kept, i);
-        move_byte(a, 8192 + i, kept, 640 + i);
-        i += 1;
-    }
-}
-
-// Keeps 640 bytes of copy 0, at `to`: 0 for the old record, 640 for the new one.
-pub fn keep_record(pair: &mut [u8], to: usize, a: &[u8]) {
-    if 640 < to {
-        return;
-    }
-    let mut i = 0;
-    while i < 640 {
-        move_byte(pair, to + i, a, i);
-        i += 1;
-    }
+    move_record(a, 0, kept, 0);
+    move_record(a, 8192, kept, 640);
 }
 
 // Where the copy that is read begins; past every record where there is none.
-fn source(a: &[u8]) -> usize {
+fn source(a: &[u8]) -> u32
+    ensures { λ base. ⌜ base ≤ 16384 ⌝ }
+{
     if a.len() != 16384 {
         return 16384;
     }
@@ -61,38 +55,25 @@ fn source(a: &[u8]) -> usize {
     }
 }
 
-fn at_most_kept(n: u32) -> usize {
-    if n < 640 { n as usize } else { 640 }
+fn at_most_kept(n: u32) -> u32
+    ensures { λ r. ⌜ r ≤ 640 ⌝ }
+{
+    if n < 640 { n } else { 640 }
 }
 
-// Whether byte i of the record at base is that of the kept record at `to`.
-fn same_byte(a: &[u8], base: usize, pair: &[u8], to: usize, i: usize) -> bool {
-    if 640 <= i {
-        return true;
-    }
-    if 8192 < base {
-        return false;
-    }
-    if 640 < to {
-        return false;
-    }
-    byte(a, base + i) == byte(pair, to + i)
-}
-
-// Whether the record at base is the kept one at `to`, byte for byte.
-fn same_record(a: &[u8], base: usize, pair: &[u8], to: usize) -> bool {
-    if 8192 < base {
-        return false;
-    }
+// Whether the record at base is the kept one at `to`, byte for byte. There is none past copy 1.
+fn same_record(a: &[u8], base: u32, pair: &[u8], to: u32) -> bool
+    requires { ⌜ (base ≤ 16384) × (to ≤ 640) ⌝ }
+{
     let n = at_most_kept(word(a, base + 16));
-    let mut i = 0;
+    let mut i: u32 = 0;
     while i < n {
-        if !same_byte(a, base, pair, to, i) {
+        if byte(a, base + i) != byte(pair, to + i) {
             return false;
         }
         i += 1;
     }
-    true
+    base < 16384
 }
 
 // Which record is read: 1 the old, 2 the new, 3 both where they are the same, 0 none of them.
@@ -141,7 +122,9 @@ fn code(r: Answer) -> u32 {
 }
 
 // What document 01 gives for the record at base and the booted bank, as such a number.
-fn given(a: &[u8], base: usize, booted: u32) -> u32 {
+fn given(a: &[u8], base: u32, booted: u32) -> u32
+    requires { ⌜ (base ≤ 16384) × (booted ≤ 3) ⌝ }
+{
     if 8192 < base {
         return 21;
     }
@@ -151,17 +134,16 @@ fn given(a: &[u8], base: usize, booted: u32) -> u32 {
     if word(a, base + 8) != booted {
         return 4;
     }
-    if 4 < booted {
-        return 0;
-    }
-    if byte(a, base + 24 + booted as usize) == 252 {
+    if byte(a, base + 24 + booted) == 252 {
         return 1;
     }
     3
 }
 
 // Whether start-up answers what the record read gives, for a booted bank.
-fn starts_with(a: &[u8], base: usize, booted: u32) -> bool {
+fn starts_with(a: &[u8], base: u32, booted: u32) -> bool
+    requires { ⌜ (base ≤ 16384) × (booted ≤ 3) ⌝ }
+{
     code(start_up::start_up(a, booted)) == given(a, base, booted)
 }
 

@@ -5,7 +5,7 @@ mod areas;
 mod tally;
 
 use areas::keep;
-use areas::keep_record;
+use areas::move_record;
 use areas::restore;
 use areas::seen;
 use areas::settled;
@@ -16,6 +16,7 @@ use record_cases::cases::Case;
 use record_cases::script;
 use record_cases::script::Line;
 use record_cases::shown;
+use session::Answer;
 use tally::Tally;
 
 // A read after a repair's cut: the same record as before, and if the repair has finished both copies sound and equal.
@@ -40,24 +41,35 @@ fn second_cut(
     read_again(a, pair, before, n == all, t)
 }
 
-// The second repair, at every cut.
-fn second(a: &mut [u8], pair: &[u8], before: u32, t: Tally) -> Tally {
-    let mut from = [0u8; 1280];
-    keep(&mut from, a);
-    let mut list = [0u32; 4200];
-    let r = repair::repair(a, &mut list);
-    let all = r.stores;
-    let mut now = tally::repair(t);
+// The second repair, at every cut; `from` is the area before it.
+fn second_cuts(
+    a: &mut [u8],
+    from: &[u8],
+    pair: &[u8],
+    before: u32,
+    list: &[u32],
+    all: usize,
+    t: Tally,
+) -> Tally {
+    let mut now = t;
     if 2100 < all {
         return now;
     }
     let mut n = 0;
     while n <= all {
-        restore(a, &from);
-        now = second_cut(a, pair, before, &list, all, n, now);
+        restore(a, from);
+        now = second_cut(a, pair, before, list, all, n, now);
         n += 1;
     }
     now
+}
+
+fn second(a: &mut [u8], pair: &[u8], before: u32, t: Tally) -> Tally {
+    let mut from = [0u8; 1280];
+    keep(&mut from, a);
+    let mut list = [0u32; 4200];
+    let r = repair::repair(a, &mut list);
+    second_cuts(a, &from, pair, before, &list, r.stores, tally::repair(t))
 }
 
 // The first repair, cut after n of its stores, and the second one behind it.
@@ -76,23 +88,34 @@ fn first_cut(
 }
 
 // The first repair, at every cut.
-fn first(a: &mut [u8], pair: &[u8], before: u32, t: Tally) -> Tally {
-    let mut from = [0u8; 1280];
-    keep(&mut from, a);
-    let mut list = [0u32; 4200];
-    let r = repair::repair(a, &mut list);
-    let all = r.stores;
-    let mut now = tally::repair(t);
+fn first_cuts(
+    a: &mut [u8],
+    from: &[u8],
+    pair: &[u8],
+    before: u32,
+    list: &[u32],
+    all: usize,
+    t: Tally,
+) -> Tally {
+    let mut now = t;
     if 2100 < all {
         return now;
     }
     let mut n = 0;
     while n <= all {
-        restore(a, &from);
-        now = first_cut(a, pair, before, &list, all, n, now);
+        restore(a, from);
+        now = first_cut(a, pair, before, list, all, n, now);
         n += 1;
     }
     now
+}
+
+fn first(a: &mut [u8], pair: &[u8], before: u32, t: Tally) -> Tally {
+    let mut from = [0u8; 1280];
+    keep(&mut from, a);
+    let mut list = [0u32; 4200];
+    let r = repair::repair(a, &mut list);
+    first_cuts(a, &from, pair, before, &list, r.stores, tally::repair(t))
 }
 
 // The change, cut after n of its stores, and the repairs behind it.
@@ -105,100 +128,75 @@ fn change_cut(a: &mut [u8], pair: &[u8], list: &[u32], n: usize, t: Tally) -> Ta
 }
 
 // The change at every cut; at the end the area is as it was.
-fn cuts(a: &mut [u8], pair: &[u8], list: &[u32], all: usize) -> Tally {
-    let mut from = [0u8; 1280];
-    keep(&mut from, a);
+fn cuts(a: &mut [u8], from: &[u8], pair: &[u8], list: &[u32], all: usize) -> Tally {
     let mut now = tally::none();
     if 2100 < all {
         return now;
     }
     let mut n = 0;
     while n <= all {
-        restore(a, &from);
+        restore(a, from);
         now = change_cut(a, pair, list, n, now);
         n += 1;
     }
-    restore(a, &from);
+    restore(a, from);
     now
 }
 
-// The old record and the new one, the area as it was.
+// The old record and the new one, which the area holds then.
 fn keep_pair(pair: &mut [u8], a: &mut [u8], list: &[u32], all: usize) {
-    let mut from = [0u8; 1280];
-    keep(&mut from, a);
-    keep_record(pair, 0, a);
+    move_record(pair, 0, a, 0);
     apply(a, list, all);
-    keep_record(pair, 640, a);
-    restore(a, &from);
+    move_record(pair, 640, a, 0);
 }
 
-fn count_of(stores: usize) -> u32 {
-    if stores < 4294967296 {
-        stores as u32
-    } else {
-        0
-    }
+fn change(a: &mut [u8], list: &[u32], all: usize) -> Tally {
+    let mut from = [0u8; 1280];
+    keep(&mut from, a);
+    let mut pair = [0u8; 1280];
+    keep_pair(&mut pair, a, list, all);
+    cuts(a, &from, &pair, list, all)
+}
+
+fn show_change(letter: u8, r: Answer, t: Tally) {
+    shown::text(b"\t");
+    shown::show_name(letter);
+    shown::text(b"\t");
+    shown::show_start(r);
+    shown::column(r.stores as u64);
+    tally::show(t);
+    shown::text(b"\n");
 }
 
 // The change that a line's call makes.
 fn simulate(case: Case, line: Line, a: &mut [u8]) {
     let session = case.session;
-    let letter = line.letter;
     let mut list = [0u32; 4200];
     let r = cases::call(session, line, a, &mut list);
-    let all = r.stores;
-    let mut pair = [0u8; 1280];
-    keep_pair(&mut pair, a, &list, all);
-    let t = cuts(a, &pair, &list, all);
-    shown::text(b"\t");
-    shown::show_name(letter);
-    shown::text(b"\t");
-    shown::show_start(r);
-    shown::column(count_of(all));
-    tally::show(t);
-    shown::text(b"\n");
+    let t = change(a, &list, r.stores);
+    show_change(line.letter, r, t);
 }
 
-fn line_done(case: Case, line: Line, a: &mut [u8]) -> Case {
-    let letter = line.letter;
-    match letter {
-        b'B' | b'C' | b'E' | b'X' | b'A' | b'P' => {
-            simulate(case, line, a);
-            case
-        }
-        _ => cases::step(case, line, a),
+// A byte of the script behind a step: where it ends the step, that is done.
+fn read(case: Case, line: Line, b: u8, a: &mut [u8]) -> Case {
+    if !script::is_end(b) {
+        return case;
     }
-}
-
-// A case, and the line that is being read.
-struct Reading {
-    case: Case,
-    line: Line,
-}
-
-// A byte of the script more.
-fn byte_read(now: Reading, b: u8, a: &mut [u8]) -> Reading {
-    let case = now.case;
-    let line = now.line;
-    if b == b'\n' {
-        let next = line_done(case, line, a);
-        let none = script::empty();
-        return Reading {
-            case: next,
-            line: none,
-        };
+    if cases::is_call(line.letter) {
+        simulate(case, line, a);
+        return case;
     }
-    let longer = shown::read(line, b);
-    Reading { case, line: longer }
+    cases::step(case, line, a)
 }
 
 fn run(s: &[u8], a: &mut [u8]) {
-    let case = cases::first_case();
-    let line = script::empty();
-    let mut now = Reading { case, line };
+    let mut case = cases::first_case(false);
+    let mut line = script::empty();
     let mut i = 0;
     while i < s.len() {
-        now = byte_read(now, s[i], a);
+        let b = s[i];
+        case = read(case, line, b, a);
+        line = shown::read(line, b);
         i += 1;
     }
 }

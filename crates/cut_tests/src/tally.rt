@@ -1,22 +1,22 @@
 // What a simulation counts.
 use record_cases::shown::column;
-use std::num::wrapping_add_u32;
+use std::num::wrapping_add_u64;
 
 pub struct Tally {
     // Cuts of the change, and how many of them left an area in which the old record is read, and the new one. Where the change alters
     // nothing, old and new are the same, and a cut counts as both.
-    pub cuts: u32,
-    pub old: u32,
-    pub new: u32,
+    pub cuts: u64,
+    pub old: u64,
+    pub new: u64,
     // Repairs, the reads after their cuts, and those of them that had finished.
-    pub repairs: u32,
-    pub reads: u32,
-    pub finished: u32,
+    pub repairs: u64,
+    pub reads: u64,
+    pub finished: u64,
     // What must not be: another record is read than the old or the new one, or than before a repair; or copies that are not sound and equal
     // once a repair has finished; or a start-up that answers something else than the record read gives.
-    pub other: u32,
+    pub other: u64,
     // What must not be: the old record is read at a later cut than the new one.
-    pub back: u32,
+    pub back: u64,
 }
 
 pub fn none() -> Tally {
@@ -33,8 +33,8 @@ pub fn none() -> Tally {
 }
 
 // One more, where it is so.
-fn counted(n: u32, so: bool) -> u32 {
-    if so { wrapping_add_u32(n, 1) } else { n }
+fn counted(n: u64, so: bool) -> u64 {
+    if so { wrapping_add_u64(n, 1) } else { n }
 }
 
 // A cut of the change: which record is read (1 the old, 2 the new, 3 both, 0 none), and whether the new one was read at an earlier cut.

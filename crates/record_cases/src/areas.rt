@@ -1,47 +1,31 @@
-// Areas for the cases: both copies hold a record that is built field by field, its checksum worked anew after each change.
-use record::entry_at;
+// Areas for the cases. A copy is written word by word, and the checksum is worked anew after each change. Places are 32-bit offsets, as those
+// of stores are.
+ghost use Prim.Native.Nat.{_≤_};
 
-// Puts a byte where it fits.
-pub fn put8(a: &mut [u8], at: usize, v: u8) {
-    if at < a.len() {
-        a[at] = v;
+// Puts the lower 8 bits where they fit.
+pub fn put8(a: &mut [u8], at: u32, v: u32) {
+    let k = at as usize;
+    if k < a.len() {
+        a[k] = (v % 256) as u8;
     }
-}
-
-// Puts a 16-bit number where it fits.
-fn put16(a: &mut [u8], at: usize, v: u16) {
-    let n = a.len();
-    if n < 2 {
-        return;
-    }
-    if n - 2 < at {
-        return;
-    }
-    fields::write16(a, at, v);
 }
 
 // Puts a 32-bit number where it fits.
-fn put32(a: &mut [u8], at: usize, v: u32) {
-    let n = a.len();
-    if n < 4 {
-        return;
+pub fn put32(a: &mut [u8], at: u32, v: u32) {
+    let k = at as usize;
+    if k + 4 <= a.len() {
+        fields::write32(a, k, v);
     }
-    if n - 4 < at {
-        return;
-    }
-    fields::write32(a, at, v);
 }
 
 // The 32-bit number at `at`, or 0 where none fits.
-pub fn word(a: &[u8], at: usize) -> u32 {
-    let n = a.len();
-    if n < 4 {
-        return 0;
+pub fn word(a: &[u8], at: u32) -> u32 {
+    let k = at as usize;
+    if k + 4 <= a.len() {
+        fields::read32(a, k)
+    } else {
+        0
     }
-    if n - 4 < at {
-        return 0;
-    }
-    fields::read32(a, at)
 }
 
 fn wide(x: u8) -> u32 {
@@ -49,153 +33,122 @@ fn wide(x: u8) -> u32 {
 }
 
 // The byte at `at`, or 0 past the end.
-pub fn byte(a: &[u8], at: usize) -> u32 {
-    if at < a.len() { wide(a[at]) } else { 0 }
+pub fn byte(a: &[u8], at: u32) -> u32 {
+    let k = at as usize;
+    if k < a.len() { wide(a[k]) } else { 0 }
 }
 
-// Every byte 0.
-fn clear(a: &mut [u8]) {
-    let n = a.len();
-    let mut i = 0;
-    while i < n {
-        put8(a, i, 0);
-        i += 1;
-    }
-}
-
-// Where the part of bank b begins in the entry of image i, of a record with so many banks; 0 where there is no such part.
-pub fn part_at(banks: usize, i: usize, b: usize) -> usize {
+// Where the entry of image i begins in a record of so many banks, or behind all i images the record ends; 0 where no record has so many.
+fn entry_at(banks: u32, i: u32) -> u32
+    ensures { λ at. ⌜ at ≤ 4136 ⌝ }
+{
     if 4 < banks {
         return 0;
     }
-    if 32 <= i {
+    if 32 < i {
         return 0;
     }
-    if banks <= b {
+    record::entry_at(banks as usize, i as usize) as u32
+}
+
+// Where it is told whether image i is accepted in bank b.
+pub fn accepted_at(banks: u32, i: u32, b: u32) -> u32
+    requires { ⌜ b ≤ 3 ⌝ }
+    ensures { λ at. ⌜ at ≤ 8191 ⌝ }
+{
+    entry_at(banks, i) + 48 + 24 * b
+}
+
+// The four states: 252 for a bank, 255 past them.
+fn states(banks: u32) -> u32 {
+    match banks {
+        1 => 0xFFFF_FFFC,
+        2 => 0xFFFF_FCFC,
+        3 => 0xFFFC_FCFC,
+        _ => 0xFCFC_FCFC,
+    }
+}
+
+// Word k of the header: active 0, previous the last bank.
+fn header_word(banks: u32, images: u32, k: u32) -> u32
+    requires { ⌜ (1 ≤ banks) × (banks ≤ 7) × (images ≤ 63) ⌝ }
+{
+    match k {
+        1 => 2,
+        3 => banks - 1,
+        4 => entry_at(banks, images),
+        5 => 32,
+        6 => states(banks),
+        8 => banks + 65536 * images,
+        9 => 32 + 24 * banks + 65536 * 24,
+        _ => 0,
+    }
+}
+
+// Word k behind the header: image i has the type GUID i and the location GUID 100 + i, each by its byte 12, and is accepted in every bank.
+fn entry_word(banks: u32, images: u32, k: u32) -> u32
+    requires { ⌜ (banks ≤ 7) × (images ≤ 63) ⌝ }
+{
+    let words = 8 + 6 * banks;
+    let i = k / words;
+    if images <= i {
         return 0;
     }
-    entry_at(banks, i) + 32 + 24 * b
-}
-
-// The accepted word of image i in bank b.
-fn mark(a: &mut [u8], base: usize, banks: usize, i: usize, b: usize, flag: u32) {
-    let at = part_at(banks, i, b);
-    if at < 40 {
-        return;
-    }
-    if 8192 < at {
-        return;
-    }
-    if 8192 < base {
-        return;
-    }
-    put32(a, base + at + 16, flag);
-}
-
-// The entry of image i: type GUID i and location GUID 100 + i, each by its byte 12, and the image accepted in every bank.
-fn entry(a: &mut [u8], base: usize, banks: usize, i: usize) {
-    if 8192 < base {
-        return;
-    }
-    if 4 < banks {
-        return;
-    }
-    if 32 <= i {
-        return;
-    }
-    let at = base + entry_at(banks, i);
-    put32(a, at + 12, i as u32);
-    put32(a, at + 28, 100 + i as u32);
-    mark(a, base, banks, i, 0, 1);
-    mark(a, base, banks, i, 1, 1);
-    mark(a, base, banks, i, 2, 1);
-    mark(a, base, banks, i, 3, 1);
-}
-
-// The entries of all images.
-fn entries(a: &mut [u8], base: usize, banks: usize, images: usize) {
-    let mut i = 0;
-    while i < images {
-        entry(a, base, banks, i);
-        i += 1;
+    let of_entry = k % words;
+    match of_entry {
+        3 => i,
+        7 => 100 + i,
+        12 | 18 | 24 | 30 | 36 | 42 | 48 => 1,
+        _ => 0,
     }
 }
 
-// The state of bank b: 252 for a bank, 255 past them.
-fn state_of(b: usize, banks: usize) -> u8 {
-    if b < banks { 252 } else { 255 }
+// Word k of a copy. With 0 banks it holds no record, but zeros.
+fn copy_word(banks: u32, images: u32, k: u32) -> u32
+    requires { ⌜ (banks ≤ 7) × (images ≤ 63) ⌝ }
+{
+    if banks == 0 {
+        return 0;
+    }
+    if k < 10 {
+        return header_word(banks, images, k);
+    }
+    entry_word(banks, images, k - 10)
 }
 
-// The four states.
-fn states(a: &mut [u8], base: usize, banks: usize) {
-    if 8192 < base {
-        return;
+// The checksum of the record at base, over its bytes 4 to size; 0 where its size leaves none, or is past the end.
+fn checksum(a: &[u8], base: u32) -> u32
+    requires { ⌜ base ≤ 8192 ⌝ }
+{
+    let from = base as usize + 4;
+    let to = base as usize + word(a, base + 16) as usize;
+    if to < from {
+        return 0;
     }
-    put8(a, base + 24, state_of(0, banks));
-    put8(a, base + 25, state_of(1, banks));
-    put8(a, base + 26, state_of(2, banks));
-    put8(a, base + 27, state_of(3, banks));
+    if a.len() < to {
+        return 0;
+    }
+    crc::crc32(&a[from..to])
 }
 
-// The header's other fields: active 0, previous the last bank.
-fn header(a: &mut [u8], base: usize, banks: usize, images: usize) {
-    if 8192 < base {
-        return;
-    }
-    if 4 < banks {
-        return;
-    }
-    if 32 < images {
-        return;
-    }
-    if banks < 1 {
-        return;
-    }
-    put32(a, base + 4, 2);
-    put32(a, base + 12, (banks - 1) as u32);
-    put32(a, base + 16, entry_at(banks, images) as u32);
-    put16(a, base + 20, 32);
-    put8(a, base + 32, banks as u8);
-    put16(a, base + 34, images as u16);
-    put16(a, base + 36, (32 + 24 * banks) as u16);
-    put16(a, base + 38, 24);
-}
-
-// The checksum worked anew, over the bytes 4 to size of the record at base.
-fn seal(a: &mut [u8], base: usize) {
-    if 8192 < base {
-        return;
-    }
-    let n = a.len();
-    if n < base + 40 {
-        return;
-    }
-    let size = fields::read32(a, base + 16) as usize;
-    if size < 4 {
-        return;
-    }
-    if n - base < size {
-        return;
-    }
-    let from = base + 4;
-    let to = base + size;
-    let crc = crc::crc32(&a[from..to]);
+// It is worked anew.
+fn seal(a: &mut [u8], base: u32)
+    requires { ⌜ base ≤ 8192 ⌝ }
+{
+    let crc = checksum(a, base);
     put32(a, base, crc);
 }
 
-// A record at base, every image accepted in every bank.
-fn build(a: &mut [u8], base: usize, banks: usize, images: usize) {
-    header(a, base, banks, images);
-    states(a, base, banks);
-    entries(a, base, banks, images);
+// The copy at base anew: a record of so many banks and images, and zeros behind it. Past 4 banks or 32 images its size is 0.
+pub fn build(a: &mut [u8], base: u32, banks: u32, images: u32)
+    requires { ⌜ (base ≤ 8192) × (banks ≤ 7) × (images ≤ 63) ⌝ }
+{
+    let mut k: u32 = 0;
+    while k < 2048 {
+        put32(a, base + 4 * k, copy_word(banks, images, k));
+        k += 1;
+    }
     seal(a, base);
-}
-
-// An area whose copies hold the same record, and zeros behind it.
-pub fn fresh(a: &mut [u8], banks: usize, images: usize) {
-    clear(a);
-    build(a, 0, banks, images);
-    build(a, 8192, banks, images);
 }
 
 // The checksums of both records worked anew.
@@ -204,48 +157,21 @@ pub fn seal_both(a: &mut [u8]) {
     seal(a, 8192);
 }
 
-// The word at `at` of both records.
-pub fn set_word(a: &mut [u8], at: usize, v: u32) {
-    if 8192 < at {
-        return;
-    }
-    put32(a, at, v);
-    put32(a, 8192 + at, v);
+// The byte at `at` of both records.
+pub fn set_both(a: &mut [u8], at: u32, v: u32)
+    requires { ⌜ at ≤ 8191 ⌝ }
+{
+    put8(a, at, v);
+    put8(a, at + 8192, v);
     seal_both(a);
-}
-
-// The state of bank b in both records.
-pub fn set_state(a: &mut [u8], b: usize, v: u8) {
-    if 4 <= b {
-        return;
-    }
-    put8(a, 24 + b, v);
-    put8(a, 8216 + b, v);
-    seal_both(a);
-}
-
-// Whether image i is accepted in bank b, in both records.
-pub fn set_accepted(a: &mut [u8], i: usize, b: usize, flag: u32) {
-    let banks = byte(a, 32) as usize;
-    mark(a, 0, banks, i, b, flag);
-    mark(a, 8192, banks, i, b, flag);
-    seal_both(a);
-}
-
-fn size_of(x: u32) -> usize {
-    x as usize
 }
 
 // Does the store at the place i of a list.
 fn store(a: &mut [u8], out: &[u32], i: usize) {
-    if 8000 < i {
-        return;
+    if i < out.len() / 2 {
+        let k = 2 * i;
+        put32(a, out[k], out[k + 1]);
     }
-    let k = 2 * i;
-    if out.len() <= k + 1 {
-        return;
-    }
-    put32(a, size_of(out[k]), out[k + 1]);
 }
 
 // Does the first n stores of a list.
@@ -257,25 +183,19 @@ pub fn apply(a: &mut [u8], out: &[u32], n: usize) {
     }
 }
 
-// Whether byte i is the same in both copies.
-fn same_byte(a: &[u8], i: usize) -> bool {
-    if 8192 <= i {
-        return true;
-    }
-    byte(a, i) == byte(a, 8192 + i)
-}
-
 // At most 8,192, the length of a copy.
-fn at_most_copy(n: u32) -> usize {
-    if n < 8192 { n as usize } else { 8192 }
+fn at_most_copy(n: u32) -> u32
+    ensures { λ r. ⌜ r ≤ 8192 ⌝ }
+{
+    if n < 8192 { n } else { 8192 }
 }
 
 // Whether the records in the two copies are the same, byte for byte, as far as the size in copy 0 says.
 pub fn copies_equal(a: &[u8]) -> bool {
     let n = at_most_copy(word(a, 16));
-    let mut i = 0;
+    let mut i: u32 = 0;
     while i < n {
-        if !same_byte(a, i) {
+        if byte(a, i) != byte(a, 8192 + i) {
             return false;
         }
         i += 1;

@@ -1,5 +1,5 @@
-// A case: the session, the lengths that a call is given, and whether only the count of stores is printed. Steps of a script change the
-// case and its area; calls are told by their letters.
+// A case: the session, the lengths that a call is given, and whether its answer alone is printed. Steps of a script change the case and its
+// area; calls are told by their letters.
 use crate::areas;
 use crate::script;
 use crate::script::Line;
@@ -8,6 +8,7 @@ use refusals::Refusal;
 use session::Answer;
 use session::Session;
 use session::Verdict;
+ghost use Prim.Native.Nat.{_≤_};
 
 pub struct Case {
     pub session: Session,
@@ -17,12 +18,12 @@ pub struct Case {
 }
 
 // Regular, with lengths that are right.
-pub fn first_case() -> Case {
+pub fn first_case(brief: bool) -> Case {
     Case {
         session: Session::Regular,
         area: 16384,
         slice: 4200,
-        brief: false,
+        brief,
     }
 }
 
@@ -35,22 +36,12 @@ fn with_session(case: Case, session: Session) -> Case {
     }
 }
 
-fn with_lengths(case: Case, area: u32, slice: u32) -> Case {
+fn with_lengths(case: Case, area: usize, slice: usize, brief: bool) -> Case {
     let session = case.session;
     Case {
         session,
-        area: area as usize,
-        slice: slice as usize,
-        brief: case.brief,
-    }
-}
-
-fn with_brief(case: Case, brief: bool) -> Case {
-    let session = case.session;
-    Case {
-        session,
-        area: case.area,
-        slice: case.slice,
+        area,
+        slice,
         brief,
     }
 }
@@ -68,72 +59,102 @@ fn session_of(n: u32, bank: u32, set: u32) -> Session {
 
 // The type GUID of image i: its lower byte at 12, the next at 0.
 fn guid_of(i: u32) -> [u8; 16] {
-    let mut g = [0u8; 16];
-    g[12] = (i % 256) as u8;
-    g[0] = (i / 256 % 256) as u8;
-    g
+    let low = (i % 256) as u8;
+    let next = (i / 256 % 256) as u8;
+    [next, 0, 0, 0, 0, 0, 0, 0, 0, 0, 0, 0, low, 0, 0, 0]
 }
 
-// The call of that letter. Commit has the image and the request, Accept the image, start-up the booted bank.
+// The call of that letter. Commit has the image and the request.
 pub fn call(session: Session, line: Line, area: &[u8], out: &mut [u32]) -> Answer {
     let letter = line.letter;
-    let y = line.y;
-    let z = line.z;
     match letter {
         b'B' => session.begin(area, out),
-        b'C' => session.commit(area, guid_of(y), z, out),
+        b'C' => session.commit(area, guid_of(line.y), line.z, out),
         b'E' => session.end(area, out),
         b'X' => session.cancel(area, out),
-        b'A' => session.accept(area, guid_of(z), out),
-        b'P' => session.select_previous(area, out),
-        b'U' => start_up::start_up(area, z),
-        b'F' => repair::repair(area, out),
-        _ => Answer::refused(session, Refusal::WindowEnd),
+        _ => later_call(session, letter, line.z, area, out),
     }
 }
 
-// A change of both records, or of one byte of the area.
+// Of the calls that are no part of an update, Accept has the image and start-up the booted bank.
+fn later_call(session: Session, letter: u8, n: u32, area: &[u8], out: &mut [u32]) -> Answer {
+    match letter {
+        b'A' => session.accept(area, guid_of(n), out),
+        b'P' => session.select_previous(area, out),
+        b'U' => start_up::start_up(area, n),
+        _ => repair::repair(area, out),
+    }
+}
+
+// Where both records have what a, p, k and i change.
+fn place(line: Line, banks: u32) -> u32
+    ensures { λ at. ⌜ at ≤ 8191 ⌝ }
+{
+    let letter = line.letter;
+    match letter {
+        b'a' => 8,
+        b'p' => 12,
+        b'k' => 24 + line.y % 4,
+        _ => areas::accepted_at(banks, line.x, line.y % 4),
+    }
+}
+
+fn set_both(line: Line, a: &mut [u8]) {
+    let at = place(line, areas::byte(a, 32));
+    areas::set_both(a, at, line.z);
+}
+
+// A copy anew, or with R both.
+fn renewed(line: Line, a: &mut [u8]) {
+    let banks = line.y % 8;
+    let images = line.z % 64;
+    areas::build(a, 8192 * (line.x % 2), banks, images);
+    if line.letter == b'R' {
+        areas::build(a, 8192, banks, images);
+    }
+}
+
+// What a step does to the area as a whole, or to both records.
 fn changed(line: Line, a: &mut [u8]) {
     let letter = line.letter;
-    let x = line.x as usize;
-    let y = line.y as usize;
-    let z = line.z;
     match letter {
-        b'a' => areas::set_word(a, 8, z),
-        b'p' => areas::set_word(a, 12, z),
-        b'k' => areas::set_state(a, y, (z % 256) as u8),
-        b'i' => areas::set_accepted(a, x, y, z),
-        b'd' => areas::put8(a, y, (z % 256) as u8),
+        b'R' | b'r' => renewed(line, a),
+        b'a' | b'p' | b'k' | b'i' => set_both(line, a),
         b's' => areas::seal_both(a),
+        _ => altered(letter, line.y, line.z, a),
+    }
+}
+
+// What it does to one place; or a line's end.
+fn altered(letter: u8, at: u32, v: u32, a: &mut [u8]) {
+    match letter {
+        b'd' => areas::put8(a, at, v),
+        b'w' => areas::put32(a, at, v),
+        b'n' => shown::text(b"\n"),
         _ => {}
     }
 }
 
-// A step that is no call: R a new area of so many banks and images, S a session, L the lengths of area and slice, m whether only counts are
-// printed, n a line's end; and of both records a active, p previous, k a bank's state, i whether an image is accepted in a bank. d alters
-// one byte of the area and works no checksum anew, s works both anew.
-pub fn step(case: Case, line: Line, a: &mut [u8]) -> Case {
+// What a step does to the case.
+fn next_case(case: Case, line: Line) -> Case {
     let letter = line.letter;
-    let x = line.x;
     let y = line.y;
     let z = line.z;
     match letter {
-        b'R' => {
-            areas::fresh(a, y as usize, z as usize);
-            first_case()
-        }
-        b'S' => with_session(case, session_of(x, y, z)),
-        b'L' => with_lengths(case, y, z),
-        b'm' => with_brief(case, z == 1),
-        b'n' => {
-            shown::text(b"\n");
-            case
-        }
-        _ => {
-            changed(line, a);
-            case
-        }
+        b'R' => first_case(case.brief),
+        b'S' => with_session(case, session_of(line.x, y, z)),
+        b'L' => with_lengths(case, y as usize, z as usize, case.brief),
+        b'm' => with_lengths(case, case.area, case.slice, z == 1),
+        _ => case,
     }
+}
+
+// A step that is no call: R a new area of so many banks and images, S a session, L the lengths of area and slice, m whether answers alone are
+// printed, n a line's end; and of both records a active, p previous, k a bank's state, i whether an image is accepted in a bank. Of the area
+// alone r makes copy 0 or 1 anew, with so many banks and images, d alters one byte and w one word, and s works both checksums anew.
+pub fn step(case: Case, line: Line, a: &mut [u8]) -> Case {
+    changed(line, a);
+    next_case(case, line)
 }
 
 fn put_seven(out: &mut [u32], i: usize) {
@@ -180,8 +201,7 @@ fn show_after(a: &[u8], n: usize) {
     if a.len() < n {
         return;
     }
-    shown::text(b"\t");
-    shown::show_start(start_up::start_up(&a[0..n], areas::word(a, 8)));
+    show_started(start_up::start_up(&a[0..n], areas::word(a, 8)));
     if areas::copies_equal(a) {
         shown::text(b"\tequal");
     } else {
@@ -190,57 +210,10 @@ fn show_after(a: &[u8], n: usize) {
     shown::show_record(a);
 }
 
-// The count of stores, 0 where it is too large for a list.
-fn count_of(stores: usize) -> u32 {
-    if stores < 4294967296 {
-        stores as u32
-    } else {
-        0
-    }
-}
-
-// A call's answer: the session and the count of stores, or the refusal and the session.
-fn show_answer(r: Answer) {
-    let v = r.verdict;
-    let s = r.session;
-    let stores = r.stores;
-    shown::text(b"\t");
-    match v {
-        Verdict::Accepted => {
-            shown::show_session(s);
-            shown::column(count_of(stores));
-        }
-        Verdict::Refused(why) => {
-            shown::show_refusal(why);
-            shown::text(b"\t");
-            shown::show_session(s);
-        }
-    }
-}
-
-// Repair's answer: the count of stores, or the refusal.
-fn show_repair(r: Answer) {
-    let v = r.verdict;
-    let stores = r.stores;
-    shown::text(b"\t");
-    match v {
-        Verdict::Accepted => shown::number(count_of(stores)),
-        Verdict::Refused(why) => shown::show_refusal(why),
-    }
-}
-
+// The session or the refusal.
 fn show_started(r: Answer) {
     shown::text(b"\t");
     shown::show_start(r);
-}
-
-// The answer of the call of that letter. Start-up and repair are given no session, and a refusal of theirs has none.
-fn show_by_letter(r: Answer, letter: u8) {
-    match letter {
-        b'U' => show_started(r),
-        b'F' => show_repair(r),
-        _ => show_answer(r),
-    }
 }
 
 fn is_accepted(r: Answer) -> bool {
@@ -251,11 +224,44 @@ fn is_accepted(r: Answer) -> bool {
     }
 }
 
+// The count of stores, or the refusal.
+fn show_count(r: Answer) {
+    if is_accepted(r) {
+        shown::column(r.stores as u64);
+    } else {
+        show_started(r);
+    }
+}
+
+// The session and the count of stores, or the refusal and the session.
+fn show_answer(r: Answer) {
+    show_started(r);
+    if is_accepted(r) {
+        shown::column(r.stores as u64);
+    } else {
+        let s = r.session;
+        shown::text(b"\t");
+        shown::show_session(s);
+    }
+}
+
+// The answer of the call of that letter. Start-up and repair are given no session, and a refusal of theirs has none; where the answer alone is
+// printed, a call's session is not.
+fn show_by_letter(r: Answer, letter: u8, brief: bool) {
+    if letter == b'U' {
+        show_started(r);
+    } else if brief || letter == b'F' {
+        show_count(r);
+    } else {
+        show_answer(r);
+    }
+}
+
 // A line of a call: its name and its answer, and what is left once its stores are done.
 fn show_line(r: Answer, letter: u8, a: &[u8], n: usize) {
     shown::text(b"\t");
     shown::show_name(letter);
-    show_by_letter(r, letter);
+    show_by_letter(r, letter, false);
     if is_accepted(r) {
         show_after(a, n);
     }
@@ -264,11 +270,10 @@ fn show_line(r: Answer, letter: u8, a: &[u8], n: usize) {
 
 fn show_call(r: Answer, letter: u8, brief: bool, a: &[u8], n: usize) {
     if brief {
-        let stores = r.stores;
-        shown::column(count_of(stores));
-        return;
+        show_by_letter(r, letter, true);
+    } else {
+        show_line(r, letter, a, n);
     }
-    show_line(r, letter, a, n);
 }
 
 // The session that the next call has: as it was after a refusal and after repair.
@@ -283,66 +288,65 @@ fn next_session(session: Session, letter: u8, r: Answer) -> Session {
     session
 }
 
-// Makes the call of a line, does its stores, and prints.
-fn called(case: Case, line: Line, a: &mut [u8], out: &mut [u32]) -> Case {
+// The answer of a line's call.
+fn answer(case: Case, line: Line, a: &[u8], out: &mut [u32]) -> Answer {
     let session = case.session;
     let n = case.area;
     let m = case.slice;
-    let letter = line.letter;
     if a.len() < n {
-        return case;
+        return Answer::refused(session, Refusal::WindowEnd);
     }
     if out.len() < m {
-        return case;
+        return Answer::refused(session, Refusal::WindowEnd);
     }
+    call(session, line, &a[0..n], &mut out[0..m])
+}
+
+// The same, the slice filled before, and what is past the list looked at.
+fn seen_answer(case: Case, line: Line, a: &[u8], out: &mut [u32]) -> Answer {
     fill(out);
-    let r = call(session, line, &a[0..n], &mut out[0..m]);
-    let stores = r.stores;
-    show_rest(out, stores);
-    areas::apply(a, out, stores);
-    show_call(r, letter, case.brief, a, n);
+    let r = answer(case, line, a, out);
+    show_rest(out, r.stores);
+    r
+}
+
+// Makes the call of a line, does its stores, and prints.
+fn called(case: Case, line: Line, a: &mut [u8], out: &mut [u32]) -> Case {
+    let session = case.session;
+    let letter = line.letter;
+    let r = seen_answer(case, line, a, out);
+    areas::apply(a, out, r.stores);
+    show_call(r, letter, case.brief, a, case.area);
     with_session(case, next_session(session, letter, r))
 }
 
-// A line that is read whole.
-fn line_done(case: Case, line: Line, a: &mut [u8], out: &mut [u32]) -> Case {
-    let letter = line.letter;
+pub fn is_call(letter: u8) -> bool {
     match letter {
-        b'B' | b'C' | b'E' | b'X' | b'A' | b'P' | b'U' | b'F' => called(case, line, a, out),
-        _ => step(case, line, a),
+        b'B' | b'C' | b'E' | b'X' | b'A' | b'P' | b'U' | b'F' => true,
+        _ => false,
     }
 }
 
-// A case, and the line that is being read.
-struct Reading {
-    case: Case,
-    line: Line,
-}
-
-// A byte of the script more.
-fn byte_read(now: Reading, b: u8, a: &mut [u8], out: &mut [u32]) -> Reading {
-    let case = now.case;
-    let line = now.line;
-    if b == b'\n' {
-        let next = line_done(case, line, a, out);
-        let none = script::empty();
-        return Reading {
-            case: next,
-            line: none,
-        };
+// A byte of the script behind a step: where it ends the step, that is done.
+fn read(case: Case, line: Line, b: u8, a: &mut [u8], out: &mut [u32]) -> Case {
+    if !script::is_end(b) {
+        return case;
     }
-    let longer = shown::read(line, b);
-    Reading { case, line: longer }
+    if is_call(line.letter) {
+        return called(case, line, a, out);
+    }
+    step(case, line, a)
 }
 
 // Runs a script.
 pub fn run(s: &[u8], a: &mut [u8], out: &mut [u32]) {
-    let case = first_case();
-    let line = script::empty();
-    let mut now = Reading { case, line };
+    let mut case = first_case(false);
+    let mut line = script::empty();
     let mut i = 0;
     while i < s.len() {
-        now = byte_read(now, s[i], a, out);
+        let b = s[i];
+        case = read(case, line, b, a, out);
+        line = shown::read(line, b);
         i += 1;
     }
 }

@@ -1,4 +1,4 @@
-// A script's lines: a letter and up to three numbers, each behind a space.
+// A script's steps: a letter and up to three numbers, each behind a space.
 
 pub struct Line {
     pub letter: u8,
@@ -15,6 +15,11 @@ pub fn empty() -> Line {
         y: 0,
         z: 0,
     }
+}
+
+// A step ends with its line or at a `;`; so in a comment a space stands behind one.
+pub fn is_end(b: u8) -> bool {
+    b == b'\n' || b == b';'
 }
 
 // A decimal digit more, modulo 2^32.

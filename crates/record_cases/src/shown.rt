@@ -1,26 +1,29 @@
 // What is printed of a call.
+use crate::areas::accepted_at;
 use crate::areas::byte;
-use crate::areas::part_at;
 use crate::areas::word;
 use crate::script::Line;
+use crate::script::empty;
+use crate::script::is_end;
 use crate::script::with_byte;
 use refusals::Refusal;
 use session::Answer;
 use session::Session;
 use session::Verdict;
+ghost use Prim.Native.Nat.{_≤_};
 
 pub fn text(t: &[u8]) {
     io::write_all(1, t);
 }
 
-pub fn number(n: u32) {
+fn number(n: u32) {
     io::print_decimal(1, n as u64);
 }
 
 // A number behind a tab.
-pub fn column(n: u32) {
+pub fn column(n: u64) {
     text(b"\t");
-    number(n);
+    io::print_decimal(1, n);
 }
 
 fn staging(bank: u32, set: u32) {
@@ -43,7 +46,7 @@ pub fn show_session(s: Session) {
 
 fn missing(why: Refusal) {
     match why {
-        Refusal::ImagesMissing(n) => column(n),
+        Refusal::ImagesMissing(n) => column(n as u64),
         _ => {}
     }
 }
@@ -72,27 +75,30 @@ pub fn show_name(letter: u8) {
         b'C' => text(b"Commit"),
         b'E' => text(b"End"),
         b'X' => text(b"Cancel"),
+        _ => show_later_name(letter),
+    }
+}
+
+fn show_later_name(letter: u8) {
+    match letter {
         b'A' => text(b"Accept"),
         b'P' => text(b"Select previous"),
         b'U' => text(b"start-up"),
-        b'F' => text(b"repair"),
-        _ => text(b"no call"),
+        _ => text(b"repair"),
     }
 }
 
 // The state of bank b, behind a space.
-fn show_state(a: &[u8], banks: usize, b: usize) {
-    if 4 < banks {
-        return;
+fn show_state(a: &[u8], banks: u32, b: u32)
+    requires { ⌜ b ≤ 3 ⌝ }
+{
+    if b < banks {
+        text(b" ");
+        number(byte(a, 24 + b));
     }
-    if banks <= b {
-        return;
-    }
-    text(b" ");
-    number(byte(a, 24 + b));
 }
 
-fn show_states(a: &[u8], banks: usize) {
+fn show_states(a: &[u8], banks: u32) {
     show_state(a, banks, 0);
     show_state(a, banks, 1);
     show_state(a, banks, 2);
@@ -100,18 +106,15 @@ fn show_states(a: &[u8], banks: usize) {
 }
 
 // Whether image i is accepted in bank b.
-fn show_flag(a: &[u8], banks: usize, i: usize, b: usize) {
-    let at = part_at(banks, i, b);
-    if at < 40 {
-        return;
+fn show_flag(a: &[u8], banks: u32, i: u32, b: u32)
+    requires { ⌜ b ≤ 3 ⌝ }
+{
+    if b < banks {
+        number(word(a, accepted_at(banks, i, b)));
     }
-    if 8192 < at {
-        return;
-    }
-    number(word(a, at + 16));
 }
 
-fn show_image(a: &[u8], banks: usize, i: usize) {
+fn show_image(a: &[u8], banks: u32, i: u32) {
     text(b" ");
     show_flag(a, banks, i, 0);
     show_flag(a, banks, i, 1);
@@ -119,7 +122,7 @@ fn show_image(a: &[u8], banks: usize, i: usize) {
     show_flag(a, banks, i, 3);
 }
 
-fn show_images(a: &[u8], banks: usize, images: usize) {
+fn show_images(a: &[u8], banks: u32, images: u32) {
     let mut i = 0;
     while i < images {
         show_image(a, banks, i);
@@ -129,8 +132,7 @@ fn show_images(a: &[u8], banks: usize, images: usize) {
 
 // The record in copy 0: active, previous, the bank states, and for each image whether it is accepted, a digit a bank.
 pub fn show_record(a: &[u8]) {
-    let banks = byte(a, 32) as usize;
-    let images = byte(a, 34) as usize;
+    let banks = byte(a, 32);
     text(b"\tactive ");
     number(word(a, 8));
     text(b" previous ");
@@ -138,7 +140,7 @@ pub fn show_record(a: &[u8]) {
     text(b"\tbanks");
     show_states(a, banks);
     text(b"\taccepted");
-    show_images(a, banks, images);
+    show_images(a, banks, byte(a, 34));
 }
 
 fn echo(b: u8) {
@@ -146,10 +148,12 @@ fn echo(b: u8) {
     text(&one);
 }
 
-// A line with a byte more; that of a name, behind `>`, is printed as it comes.
+// A line with a byte more, or an empty one behind its end; the byte of a name, behind `>`, is printed as it comes.
 pub fn read(line: Line, b: u8) -> Line {
-    let letter = line.letter;
-    if letter == b'>' {
+    if is_end(b) {
+        return empty();
+    }
+    if line.letter == b'>' {
         echo(b);
         return line;
     }

@@ -7,31 +7,19 @@ use Rattle.cut_tests.proofs.cuts.Statement.{statement}
 use Rattle.cut_tests.proofs.cuts.Tie as tie
 
 abbrev Inv-loop : tie.InvT-loop
-Inv-loop a₀ pair list all from now₀ n₀ a now n = (n ≤ all + 1) × (length a ≡ length a₀)
+Inv-loop a₀ from pair list all now₀ n₀ a now n = (n ≤ all + 1) × (length a ≡ length a₀)
 
 abbrev μ-loop : tie.MeasureT-loop
-μ-loop a₀ pair list all from now₀ n₀ a now n = all + 1 - n
-
-slice-aggregate-keep : tie.Need-slice-aggregate-keep Inv-loop μ-loop
-slice-aggregate-keep c = search needs
-
-keep-requires : tie.Need-keep-requires Inv-loop μ-loop
-keep-requires c κs = search needs
+μ-loop a₀ from pair list all now₀ n₀ a now n = all + 1 - n
 
 none-requires : tie.Need-none-requires Inv-loop μ-loop
 none-requires c κs = search needs
-
-same-length : tie.Need-same-length Inv-loop μ-loop
-same-length c = search needs
 
 returns : tie.Need-returns Inv-loop μ-loop
 returns c = search needs
 
 loop-holds : tie.Need-loop-holds Inv-loop μ-loop
 loop-holds c = search needs
-
-slice-aggregate-restore : tie.Need-slice-aggregate-restore Inv-loop μ-loop
-slice-aggregate-restore c = search needs
 
 restore-requires : tie.Need-restore-requires Inv-loop μ-loop
 restore-requires c κs = search needs
@@ -48,14 +36,11 @@ loop-less c = search needs
 loop-again : tie.Need-loop-again Inv-loop μ-loop
 loop-again c = search needs
 
-slice-aggregate-restore-2 : tie.Need-slice-aggregate-restore-2 Inv-loop μ-loop
-slice-aggregate-restore-2 c = search needs
-
 restore-requires-2 : tie.Need-restore-requires-2 Inv-loop μ-loop
 restore-requires-2 c κs = search needs
 
-same-length-2 : tie.Need-same-length-2 Inv-loop μ-loop
-same-length-2 c = search needs
+same-length : tie.Need-same-length Inv-loop μ-loop
+same-length c = search needs
 
 returns-2 : tie.Need-returns-2 Inv-loop μ-loop
 returns-2 c = search needs
@@ -66,19 +51,14 @@ cuts-spec =
     (tie.spec
     Inv-loop
     μ-loop
-    slice-aggregate-keep
-    keep-requires
     none-requires
-    same-length
     returns
     loop-holds
-    slice-aggregate-restore
     restore-requires
     change-cut-requires
     add-n
     loop-less
     loop-again
-    slice-aggregate-restore-2
     restore-requires-2
-    same-length-2
+    same-length
     returns-2)

@@ -5,13 +5,10 @@ use Rattle.cut_tests.proofs.areas.same_record.Statement.{statement}
 use Rattle.cut_tests.proofs.areas.same_record.Tie as tie
 
 abbrev Inv-loop : tie.InvT-loop
-Inv-loop a base pair to n i₀ i = i ≤ n
+Inv-loop a base pair to n i₀ i = (i ≤ n) × (n ≤ 640)
 
 abbrev μ-loop : tie.MeasureT-loop
 μ-loop a base pair to n i₀ i = n - i
-
-returns : tie.Need-returns Inv-loop μ-loop
-returns c = search needs
 
 add-word : tie.Need-add-word Inv-loop μ-loop
 add-word c = search needs
@@ -25,11 +22,20 @@ at-most-kept-requires c κs = search needs
 loop-holds : tie.Need-loop-holds Inv-loop μ-loop
 loop-holds c = search needs
 
-same-byte-requires : tie.Need-same-byte-requires Inv-loop μ-loop
-same-byte-requires c κs = search needs
+add-byte : tie.Need-add-byte Inv-loop μ-loop
+add-byte c = search needs
 
-returns-2 : tie.Need-returns-2 Inv-loop μ-loop
-returns-2 c = search needs
+byte-requires : tie.Need-byte-requires Inv-loop μ-loop
+byte-requires c κs = search needs
+
+add-byte-2 : tie.Need-add-byte-2 Inv-loop μ-loop
+add-byte-2 c = search needs
+
+byte-requires-2 : tie.Need-byte-requires-2 Inv-loop μ-loop
+byte-requires-2 c κs = search needs
+
+returns : tie.Need-returns Inv-loop μ-loop
+returns c = search needs
 
 add-i : tie.Need-add-i Inv-loop μ-loop
 add-i c = search needs
@@ -40,8 +46,8 @@ loop-less c = search needs
 loop-again : tie.Need-loop-again Inv-loop μ-loop
 loop-again c = search needs
 
-returns-3 : tie.Need-returns-3 Inv-loop μ-loop
-returns-3 c = search needs
+returns-2 : tie.Need-returns-2 Inv-loop μ-loop
+returns-2 c = search needs
 
 pub same-record-spec : {M : Type 1} → statement M
 same-record-spec =
@@ -49,14 +55,16 @@ same-record-spec =
     (tie.spec
     Inv-loop
     μ-loop
-    returns
     add-word
     word-requires
     at-most-kept-requires
     loop-holds
-    same-byte-requires
-    returns-2
+    add-byte
+    byte-requires
+    add-byte-2
+    byte-requires-2
+    returns
     add-i
     loop-less
     loop-again
-    returns-3)
+    returns-2)

@@ -5,7 +5,7 @@ use Rattle.record_cases.proofs.areas.copies_equal.Statement.{statement}
 use Rattle.record_cases.proofs.areas.copies_equal.Tie as tie
 
 abbrev Inv-loop : tie.InvT-loop
-Inv-loop a n i₀ i = i ≤ n
+Inv-loop a n i₀ i = (i ≤ n) × (n ≤ 8192)
 
 abbrev μ-loop : tie.MeasureT-loop
 μ-loop a n i₀ i = n - i
@@ -19,8 +19,14 @@ at-most-copy-requires c κs = search needs
 loop-holds : tie.Need-loop-holds Inv-loop μ-loop
 loop-holds c = search needs
 
-same-byte-requires : tie.Need-same-byte-requires Inv-loop μ-loop
-same-byte-requires c κs = search needs
+byte-requires : tie.Need-byte-requires Inv-loop μ-loop
+byte-requires c κs = search needs
+
+add-byte : tie.Need-add-byte Inv-loop μ-loop
+add-byte c = search needs
+
+byte-requires-2 : tie.Need-byte-requires-2 Inv-loop μ-loop
+byte-requires-2 c κs = search needs
 
 returns : tie.Need-returns Inv-loop μ-loop
 returns c = search needs
@@ -46,7 +52,9 @@ copies-equal-spec =
     word-requires
     at-most-copy-requires
     loop-holds
-    same-byte-requires
+    byte-requires
+    add-byte
+    byte-requires-2
     returns
     add-i
     loop-less

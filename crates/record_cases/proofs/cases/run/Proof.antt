@@ -7,10 +7,10 @@ use Rattle.record_cases.proofs.cases.run.Statement.{statement}
 use Rattle.record_cases.proofs.cases.run.Tie as tie
 
 abbrev Inv-loop : tie.InvT-loop
-Inv-loop s a₀ out₀ now₀ i₀ a out now i = (i ≤ length s) × (length a ≡ length a₀) × (length out ≡ length out₀)
+Inv-loop s a₀ out₀ case₀ line₀ i₀ a out case line i = (i ≤ length s) × (length a ≡ length a₀) × (length out ≡ length out₀)
 
 abbrev μ-loop : tie.MeasureT-loop
-μ-loop s a₀ out₀ now₀ i₀ a out now i = length s - i
+μ-loop s a₀ out₀ case₀ line₀ i₀ a out case line i = length s - i
 
 first-case-requires : tie.Need-first-case-requires Inv-loop μ-loop
 first-case-requires c κs = search needs
@@ -21,11 +21,14 @@ empty-requires c κs = search needs
 loop-holds : tie.Need-loop-holds Inv-loop μ-loop
 loop-holds c = search needs
 
-shared-slice-read-byte-read : tie.Need-shared-slice-read-byte-read Inv-loop μ-loop
-shared-slice-read-byte-read c = search needs
+shared-slice-read-b : tie.Need-shared-slice-read-b Inv-loop μ-loop
+shared-slice-read-b c = search needs
 
-byte-read-requires : tie.Need-byte-read-requires Inv-loop μ-loop
-byte-read-requires c κs = search needs
+read-requires : tie.Need-read-requires Inv-loop μ-loop
+read-requires c κs = search needs
+
+read-requires-2 : tie.Need-read-requires-2 Inv-loop μ-loop
+read-requires-2 c κs = search needs
 
 add-i : tie.Need-add-i Inv-loop μ-loop
 add-i c = search needs
@@ -54,8 +57,9 @@ run-spec =
     first-case-requires
     empty-requires
     loop-holds
-    shared-slice-read-byte-read
-    byte-read-requires
+    shared-slice-read-b
+    read-requires
+    read-requires-2
     add-i
     loop-less
     loop-again

@@ -3,20 +3,26 @@ use mathlib.Core.Path.{_≡_}
 use Prim.Native.Nat.{_≤_, _-_}
 use lib.ListN.{length}
 use borrow.Author.Needs.{needs}
-use Rattle.record_cases.proofs.areas.clear.Statement.{statement}
-use Rattle.record_cases.proofs.areas.clear.Tie as tie
+use Rattle.cut_tests.proofs.areas.move_record.Statement.{statement}
+use Rattle.cut_tests.proofs.areas.move_record.Tie as tie
 
 abbrev Inv-loop : tie.InvT-loop
-Inv-loop a₀ n i₀ a i = (i ≤ n) × (length a ≡ length a₀)
+Inv-loop to₀ t from f i₀ to i = (i ≤ 640) × (length to ≡ length to₀)
 
 abbrev μ-loop : tie.MeasureT-loop
-μ-loop a₀ n i₀ a i = n - i
+μ-loop to₀ t from f i₀ to i = 640 - i
 
 loop-holds : tie.Need-loop-holds Inv-loop μ-loop
 loop-holds c = search needs
 
-put8-requires : tie.Need-put8-requires Inv-loop μ-loop
-put8-requires c κs = search needs
+add-move-byte : tie.Need-add-move-byte Inv-loop μ-loop
+add-move-byte c = search needs
+
+add-move-byte-2 : tie.Need-add-move-byte-2 Inv-loop μ-loop
+add-move-byte-2 c = search needs
+
+move-byte-requires : tie.Need-move-byte-requires Inv-loop μ-loop
+move-byte-requires c κs = search needs
 
 add-i : tie.Need-add-i Inv-loop μ-loop
 add-i c = search needs
@@ -33,14 +39,16 @@ same-length c = search needs
 returns : tie.Need-returns Inv-loop μ-loop
 returns c = search needs
 
-pub clear-spec : {M : Type 1} → statement M
-clear-spec =
+pub move-record-spec : {M : Type 1} → statement M
+move-record-spec =
     tie.close
     (tie.spec
     Inv-loop
     μ-loop
     loop-holds
-    put8-requires
+    add-move-byte
+    add-move-byte-2
+    move-byte-requires
     add-i
     loop-less
     loop-again
