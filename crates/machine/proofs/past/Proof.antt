@@ -1,0 +1,52 @@
+-- Safety alone: the loop counts up to its end. Assumes nothing.
+use Prim.Native.Nat.{_≤_, _-_}
+use lib.ListN.{length}
+use borrow.Author.Needs.{needs}
+use Rattle.machine.proofs.past.Statement.{statement}
+use Rattle.machine.proofs.past.Tie as tie
+use Rattle.machine.proofs.nested.Reads as nested-reads
+
+abbrev Inv-loop : tie.InvT-loop
+Inv-loop text from «open» close depth₀ i₀ depth i = from ≤ i
+
+abbrev μ-loop : tie.MeasureT-loop
+μ-loop text from «open» close depth₀ i₀ depth i = length text - i
+
+loop-holds : tie.Need-loop-holds Inv-loop μ-loop
+loop-holds c = search needs
+
+shared-slice-read-nested : tie.Need-shared-slice-read-nested Inv-loop μ-loop
+shared-slice-read-nested c = search needs
+
+nested-requires : tie.Need-nested-requires Inv-loop μ-loop
+nested-requires c κs = search needs
+
+add-i : tie.Need-add-i Inv-loop μ-loop
+add-i c = search needs
+
+returns : tie.Need-returns Inv-loop μ-loop
+returns c = search needs
+
+loop-less : tie.Need-loop-less Inv-loop μ-loop
+loop-less c = search needs
+
+loop-again : tie.Need-loop-again Inv-loop μ-loop
+loop-again c = search needs
+
+returns-2 : tie.Need-returns-2 Inv-loop μ-loop
+returns-2 c = search needs
+
+pub past-spec : {M : Type 1} → statement M
+past-spec =
+    tie.close
+    (tie.spec
+    Inv-loop
+    μ-loop
+    loop-holds
+    shared-slice-read-nested
+    nested-requires
+    add-i
+    returns
+    loop-less
+    loop-again
+    returns-2)

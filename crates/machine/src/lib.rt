@@ -1,0 +1,414 @@
+// A small stack machine that runs a text, one character an order: the test inputs are made by such scripts, whose lines cost no proof.
+// It is total: what lies outside a stack, the memory or the text reads as 0 and is not written. Numbers are modulo 2^64.
+//
+//   # .. line's end    a comment
+//   blank, newline     ends a number
+//   0-9                the first digit of a number pushes it, each next one makes the top ten times it and the digit
+//   a letter           pushes that variable
+//   : letter           pops into that variable
+//   + - * / %          pop b, pop a, push a op b; 0 where b is a divisor 0
+//   & | ^              and, or, exclusive or of a and b
+//   < =                1 where a < b, where a = b; else 0
+//   !                  pops a; 1 where a is 0, else 0
+//   ?                  pops n; one draw; pushes the draw mod n
+//   ( .. )             pops n; the text between is run n times
+//   [ letter .. ]      a procedure of that name, passed over where it stands
+//   . letter           runs that procedure
+//   @                  pops width, pops offset; pushes the little-endian number of so many bytes (to 8) of the memory
+//   $                  pops width, pops offset, pops value; writes it there
+//   " .. "             prints the text between
+//   ;                  pops a number and prints it in decimal
+//   ~ letter           a function; it takes from the stack (the last is the top):
+//     x group seed k       starts the draws
+//     f offset n tint      filler: byte i of n is (7 i + 13 (i / 256) + tint) mod 256
+//     z offset n value     n bytes of that value
+//     m from to n          copies n bytes, ascending
+//     k offset n           pushes their CRC-32
+//     d digest n           pushes the digest with a 32-bit number more
+//     b digest offset n    pushes the digest with bytes more
+//     h n                  prints n as 8 hexadecimal digits
+//     any other            is the program's own: `step` answers its letter
+//
+// The words w: a variable is the word (letter mod 64), the value stack stands at 64 to 127, frames of two words at 128 to 191 (where to
+// go on, and how many turns are left, 0 for a procedure), procedures' positions at 192 to 255. No letter names the words below.
+// A text between quotes has no `#`, `[`, `(`, `)` or `]` in it.
+pub mod bytes;
+
+const POSITION: usize = 0;
+
+const DEPTH: usize = 27;
+
+const FRAMES: usize = 28;
+
+const NUMBER: usize = 29;
+
+const DRAWS: usize = 30;
+
+// What `step` answers: that it ran an order, that the text is at its end; else the letter of a function of the program's.
+pub const RAN: u8 = 0;
+
+pub const ENDED: u8 = 1;
+
+fn get(w: &[u64], i: usize) -> u64 {
+    if i < w.len() { w[i] } else { 0 }
+}
+
+fn set(w: &mut [u64], i: usize, v: u64) {
+    if i < w.len() {
+        w[i] = v;
+    }
+}
+
+pub fn push(w: &mut [u64], v: u64) {
+    let d = get(w, DEPTH);
+    if d < 64 {
+        set(w, DEPTH, d + 1);
+        set(w, 64 + d as usize, v);
+    }
+}
+
+pub fn pop(w: &mut [u64]) -> u64 {
+    let d = get(w, DEPTH);
+    if d == 0 {
+        return 0;
+    }
+    if 64 < d {
+        return 0;
+    }
+    set(w, DEPTH, d - 1);
+    get(w, 63 + d as usize)
+}
+
+// The product of the lower halves.
+fn product(a: u64, b: u64) -> u64 {
+    (a % 4294967296) * (b % 4294967296)
+}
+
+// a * b modulo 2^64, by halves.
+fn times(a: u64, b: u64) -> u64 {
+    let x = product(a / 4294967296, b) % 4294967296;
+    let y = product(a, b / 4294967296) % 4294967296;
+    std::num::wrapping_add_u64((x + y) % 4294967296 * 4294967296, product(a, b))
+}
+
+fn truth(t: bool) -> u64 {
+    if t { 1 } else { 0 }
+}
+
+fn calculated(c: u8, a: u64, b: u64) -> u64 {
+    match c {
+        b'+' => std::num::wrapping_add_u64(a, b),
+        b'-' => std::num::wrapping_sub_u64(a, b),
+        b'*' => times(a, b),
+        b'/' => if b == 0 { 0 } else { a / b },
+        b'%' => if b == 0 { 0 } else { a % b },
+        b'&' => a & b,
+        b'|' => a | b,
+        b'^' => a ^ b,
+        b'<' => truth(a < b),
+        _ => truth(a == b),
+    }
+}
+
+fn calculate(w: &mut [u64], c: u8) {
+    let b = pop(w);
+    let a = pop(w);
+    push(w, calculated(c, a, b));
+}
+
+// One draw (second/GENERATORS.md).
+fn draw(w: &mut [u64]) -> u64 {
+    let x = (get(w, DRAWS) % 2147483648 * 1103515245 + 12345) % 2147483648;
+    set(w, DRAWS, x);
+    x / 65536
+}
+
+// One of four steps at the start of the draws.
+fn stirred(x: u64) -> u64 {
+    let y = x % 2147483648;
+    (times(y, y / 65536 * 2 + 1) % 2147483648 + 12345) % 2147483648
+}
+
+fn start(w: &mut [u64]) {
+    let k = pop(w) % 2147483648;
+    let seed = pop(w) % 2147483648;
+    let group = pop(w) % 2147483648;
+    let x = seed * 69069 + k * 48271 + group * 16807 + 1;
+    set(w, DRAWS, stirred(stirred(stirred(stirred(x)))));
+    draw(w);
+}
+
+// The next character; 0 at the end.
+fn next(text: &[u8], w: &mut [u64]) -> u8 {
+    let at = get(w, POSITION) as usize;
+    if at < text.len() {
+        set(w, POSITION, at as u64 + 1);
+        text[at]
+    } else {
+        0
+    }
+}
+
+// A digit goes on with a number where the last order was a digit too: then NUMBER is where this one ends.
+fn digit(w: &mut [u64], c: u8) {
+    let d = (c % 16) as u64;
+    let at = get(w, POSITION);
+    let goes_on = get(w, NUMBER) == at;
+    set(w, NUMBER, std::num::wrapping_add_u64(at, 1));
+    if goes_on {
+        let t = pop(w);
+        push(w, std::num::wrapping_add_u64(times(t, 10), d));
+    } else {
+        push(w, d);
+    }
+}
+
+// How many brackets are open behind one character more.
+fn nested(depth: usize, c: u8, open: u8, close: u8) -> usize {
+    if c == close {
+        return if depth == 0 { 0 } else { depth - 1 };
+    }
+    if c == open {
+        return std::num::wrapping_add_usize(depth, 1);
+    }
+    depth
+}
+
+// Behind the end of what is open at `from`.
+fn past(text: &[u8], from: usize, open: u8, close: u8) -> usize {
+    let mut depth: usize = 1;
+    let mut i = from;
+    while i < text.len() {
+        depth = nested(depth, text[i], open, close);
+        i += 1;
+        if depth == 0 {
+            return i;
+        }
+    }
+    i
+}
+
+// A frame of a loop, or with no turns of a procedure.
+fn enter(w: &mut [u64], back: u64, turns: u64) {
+    let f = get(w, FRAMES);
+    if f < 32 {
+        let at = 128 + 2 * f as usize;
+        set(w, at, back);
+        set(w, at + 1, turns);
+        set(w, FRAMES, f + 1);
+    }
+}
+
+// The end of a loop's text or of a procedure.
+fn leave(w: &mut [u64]) {
+    let f = get(w, FRAMES);
+    if f == 0 {
+        return;
+    }
+    if 32 < f {
+        return;
+    }
+    let at = 126 + 2 * f as usize;
+    let turns = get(w, at + 1);
+    let back = get(w, at);
+    if turns < 2 {
+        set(w, FRAMES, f - 1);
+        if turns == 0 {
+            set(w, POSITION, back);
+        }
+    } else {
+        set(w, at + 1, turns - 1);
+        set(w, POSITION, back);
+    }
+}
+
+fn control(text: &[u8], w: &mut [u64], c: u8) {
+    let at = get(w, POSITION);
+    match c {
+        b'(' => {
+            let n = pop(w);
+            if n == 0 {
+                set(w, POSITION, past(text, at as usize, b'(', b')') as u64);
+            } else {
+                enter(w, at, n);
+            }
+        }
+        b'[' => set(w, POSITION, past(text, at as usize, b'[', b']') as u64),
+        b'.' => {
+            let name = (next(text, w) % 64) as usize;
+            let back = get(w, POSITION);
+            enter(w, back, 0);
+            let to = get(w, 192 + name);
+            set(w, POSITION, to);
+        }
+        _ => leave(w),
+    }
+}
+
+fn memory(w: &mut [u64], m: &mut [u8], c: u8) {
+    let width = pop(w) as usize;
+    let at = pop(w) as usize;
+    if c == b'@' {
+        push(w, bytes::load(m, at, width));
+    } else {
+        let v = pop(w);
+        bytes::store(m, at, width, v);
+    }
+}
+
+// Prints the text up to the next quote.
+fn quote(text: &[u8], w: &mut [u64]) {
+    let at = get(w, POSITION) as usize;
+    let end = past(text, at, 0, b'"');
+    set(w, POSITION, end as u64);
+    if text.len() < end {
+        return;
+    }
+    if end <= at {
+        return;
+    }
+    let last = end - 1;
+    io::write_all(1, &text[at..last]);
+}
+
+fn order(text: &[u8], w: &mut [u64], m: &mut [u8], c: u8) {
+    match c {
+        b'0'..=b'9' => digit(w, c),
+        b'a'..=b'z' | b'A'..=b'Z' => push(w, get(w, (c % 64) as usize)),
+        b':' => {
+            let name = (next(text, w) % 64) as usize;
+            let v = pop(w);
+            set(w, name, v);
+        }
+        b'+' | b'-' | b'*' | b'/' | b'%' | b'&' | b'|' | b'^' | b'<' | b'=' => calculate(w, c),
+        b'!' => {
+            let a = pop(w);
+            push(w, truth(a == 0));
+        }
+        b'?' => {
+            let n = pop(w);
+            let d = draw(w);
+            push(w, calculated(b'%', d, n));
+        }
+        b'(' | b')' | b'[' | b']' | b'.' => control(text, w, c),
+        b'@' | b'$' => memory(w, m, c),
+        b'"' => quote(text, w),
+        b'#' => {
+            let at = get(w, POSITION) as usize;
+            set(w, POSITION, past(text, at, 0, b'\n') as u64);
+        }
+        b';' => {
+            io::print_decimal(1, pop(w));
+        }
+        _ => {}
+    }
+}
+
+// A function over so many bytes of the memory.
+fn run_over(w: &mut [u64], m: &mut [u8], c: u8, at: usize, n: usize, x: u64) {
+    if m.len() < n {
+        return;
+    }
+    if m.len() - n < at {
+        return;
+    }
+    let end = at + n;
+    match c {
+        b'f' => bytes::filler(&mut m[at..end], x),
+        b'z' => bytes::level(&mut m[at..end], x),
+        b'k' => push(w, crc::crc32(&m[at..end]) as u64),
+        _ => push(w, bytes::digest_bytes(&m[at..end], x)),
+    }
+}
+
+// A function of the machine's own over bytes.
+fn over(w: &mut [u64], m: &mut [u8], c: u8) {
+    let x = pop(w);
+    let y = pop(w) as usize;
+    match c {
+        b'k' => run_over(w, m, c, y, x as usize, 0),
+        b'b' => {
+            let d = pop(w);
+            run_over(w, m, c, y, x as usize, d);
+        }
+        b'm' => {
+            let from = pop(w) as usize;
+            bytes::copy(m, from, y, x as usize);
+        }
+        _ => {
+            let at = pop(w) as usize;
+            run_over(w, m, c, at, y, x);
+        }
+    }
+}
+
+// The functions of the machine's own.
+fn function(w: &mut [u64], m: &mut [u8], c: u8) -> u8 {
+    match c {
+        b'x' => {
+            start(w);
+            RAN
+        }
+        b'f' | b'z' | b'm' | b'k' | b'b' => {
+            over(w, m, c);
+            RAN
+        }
+        b'd' => {
+            let n = pop(w);
+            let d = pop(w);
+            push(w, bytes::digest(d, n));
+            RAN
+        }
+        b'h' => {
+            io::print_hex(1, pop(w), 8);
+            RAN
+        }
+        _ => c,
+    }
+}
+
+// Runs the order at the position.
+pub fn step(text: &[u8], w: &mut [u64], m: &mut [u8]) -> u8 {
+    let c = next(text, w);
+    if c == 0 {
+        return ENDED;
+    }
+    if c == b'~' {
+        let name = next(text, w);
+        return function(w, m, name);
+    }
+    order(text, w, m, c);
+    RAN
+}
+
+// Looks at the character at i, behind a comment's beginning (1) or not (0), and answers which it is then.
+fn look(s: &mut [u8], w: &mut [u64], i: usize, comment: u8) -> u8 {
+    let c = bytes::byte(s, i);
+    if c == b'#' {
+        return 1;
+    }
+    if c == b'\n' {
+        return 0;
+    }
+    if comment == 1 {
+        bytes::store(s, i, 1, 32);
+        return 1;
+    }
+    if c == b'[' {
+        let name = (bytes::byte(s, std::num::wrapping_add_usize(i, 1)) % 64) as usize;
+        set(w, 192 + name, std::num::wrapping_add_u64(i as u64, 2));
+        return 0;
+    }
+    0
+}
+
+// Blanks the comments of a text, so that no bracket of theirs counts, and notes where procedures begin.
+pub fn prepare(s: &mut [u8], w: &mut [u64]) {
+    let n = s.len();
+    let mut comment: u8 = 0;
+    let mut i = 0;
+    while i < n {
+        comment = look(s, w, i, comment);
+        i += 1;
+    }
+}
