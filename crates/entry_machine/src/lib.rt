@@ -45,7 +45,7 @@ const ANSWERS: usize = 240000;
 
 const GUID: usize = 239000;
 
-const RESTART: u64 = 4;
+const RESTART: u32 = 4;
 
 // Puts the answers of an entry into the memory.
 fn answer(m: &mut [u8], a: &[u64; 13]) {
@@ -73,6 +73,11 @@ fn gather(w: &mut [u64], m: &mut [u8]) {
     answer(m, &a);
 }
 
+// Eight bytes of a GUID.
+fn half(guid: &[u8; 16], at: usize) -> u64 {
+    load(guid, at, 8)
+}
+
 // What is told of item k of the capsule s.
 fn told(s: &[u8], k: usize) -> [u64; 13] {
     let mut a = [0u64; 13];
@@ -85,8 +90,8 @@ fn told(s: &[u8], k: usize) -> [u64; 13] {
     a[5] = meanderpeg_capsule_vendor_code_start(s, k) as u64;
     a[6] = meanderpeg_capsule_vendor_code_length(s, k) as u64;
     meanderpeg_capsule_type_guid(s, k, &mut guid);
-    a[7] = load(&guid, 0, 8);
-    a[8] = load(&guid, 8, 8);
+    a[7] = half(&guid, 0);
+    a[8] = half(&guid, 8);
     a[9] = meanderpeg_capsule_image_index(s, k) as u64;
     a[10] = meanderpeg_capsule_hardware_instance(s, k);
     a[11] = meanderpeg_capsule_drivers(s) as u64;
@@ -118,9 +123,9 @@ fn differs(n: u32) -> u64 {
 }
 
 // How many numbers past the pairs are no 7.
-fn altered(out: &[u32], pairs: u64) -> u64 {
+fn altered(out: &[u32], pairs: usize) -> u64 {
     let mut count: u64 = 0;
-    let mut i = (pairs % 4294967296 * 2) as usize;
+    let mut i = pairs % 4294967296 * 2;
     while i < out.len() {
         count = std::num::wrapping_add_u64(count, differs(out[i]));
         i += 1;
@@ -132,58 +137,38 @@ fn low(n: u64) -> u32 {
     (n % 4294967296) as u32
 }
 
-// The call of that number, 0 start-up (its booted bank is the request) and 1 repair among them. The session is in a[1] to a[3].
-fn call(which: u64, area: &[u8], guid: [u8; 16], request: u32, out: &mut [u32], a: &mut [u64; 13]) {
-    let mut kind = low(a[1]);
-    let mut bank = low(a[2]);
-    let mut set = low(a[3]);
-    let mut pairs: usize = 0;
-    let mut missing: u32 = 0;
-    let number = match which {
-        0 => meanderpeg_start_up(area, request, &mut kind),
-        1 => meanderpeg_repair(area, out, &mut pairs),
-        2 => meanderpeg_begin(&mut kind, &mut bank, &mut set, area, out, &mut pairs),
-        3 => meanderpeg_commit(
-            &mut kind,
-            &mut bank,
-            &mut set,
-            area,
-            &guid,
-            request,
-            out,
-            &mut pairs,
-        ),
-        4 => meanderpeg_end(
-            &mut kind,
-            &mut bank,
-            &mut set,
-            area,
-            out,
-            &mut pairs,
-            &mut missing,
-        ),
-        5 => meanderpeg_cancel(&mut kind, &mut bank, &mut set, area, out, &mut pairs),
-        6 => meanderpeg_accept(&mut kind, &mut bank, &mut set, area, &guid, out, &mut pairs),
-        _ => meanderpeg_select_previous(&mut kind, &mut bank, &mut set, area, out, &mut pairs),
-    };
-    a[0] = number as u64;
-    a[1] = kind as u64;
-    a[2] = bank as u64;
-    a[3] = set as u64;
-    a[4] = pairs as u64;
-    a[5] = missing as u64;
+// The call of that number, start-up (its booted bank is the request) and repair among them.
+fn call(
+    which: u64,
+    area: &[u8],
+    guid: &[u8; 16],
+    request: u32,
+    kind: &mut u32,
+    bank: &mut u32,
+    set: &mut u32,
+    out: &mut [u32],
+    pairs: &mut usize,
+    missing: &mut u32,
+) -> u32 {
+    match which {
+        0 => meanderpeg_start_up(area, request, kind),
+        1 => meanderpeg_repair(area, out, pairs),
+        2 => meanderpeg_begin(kind, bank, set, area, out, pairs),
+        3 => meanderpeg_commit(kind, bank, set, area, guid, request, out, pairs),
+        4 => meanderpeg_end(kind, bank, set, area, out, pairs, missing),
+        5 => meanderpeg_cancel(kind, bank, set, area, out, pairs),
+        6 => meanderpeg_accept(kind, bank, set, area, guid, out, pairs),
+        _ => meanderpeg_select_previous(kind, bank, set, area, out, pairs),
+    }
 }
 
-fn session_before(m: &[u8], which: u64) -> [u64; 13] {
-    let mut a = [0u64; 13];
+// A word of the session before the call: start-up and repair have Restart.
+fn before(m: &[u8], which: u64, at: usize, restart: u32) -> u32 {
     if which < 2 {
-        a[1] = RESTART;
+        restart
     } else {
-        a[1] = load(m, ANSWERS + 8, 8);
-        a[2] = load(m, ANSWERS + 16, 8);
-        a[3] = load(m, ANSWERS + 24, 8);
+        low(load(m, at, 8))
     }
-    a
 }
 
 fn called(m: &mut [u8], out: &mut [u32], which: u64, n: usize, k: usize, request: u64) {
@@ -196,13 +181,38 @@ fn called(m: &mut [u8], out: &mut [u32], which: u64, n: usize, k: usize, request
     if out.len() < k {
         return;
     }
-    let mut a = session_before(m, which);
+    let mut kind = before(m, which, ANSWERS + 8, RESTART);
+    let mut bank = before(m, which, ANSWERS + 16, 0);
+    let mut set = before(m, which, ANSWERS + 24, 0);
+    let mut pairs: usize = 0;
+    let mut missing: u32 = 0;
     let guid = fields::read_guid(m, GUID);
     fill(out);
-    call(which, &m[0..n], guid, low(request), &mut out[0..k], &mut a);
-    let pairs = a[4];
+    let number = call(
+        which,
+        &m[0..n],
+        &guid,
+        low(request),
+        &mut kind,
+        &mut bank,
+        &mut set,
+        &mut out[0..k],
+        &mut pairs,
+        &mut missing,
+    );
+    let mut a = [0u64; 13];
+    a[0] = number as u64;
+    a[1] = kind as u64;
+    a[2] = bank as u64;
+    a[3] = set as u64;
+    a[4] = pairs as u64;
+    a[5] = missing as u64;
     a[6] = altered(out, pairs);
     answer(m, &a);
+}
+
+fn number(out: &[u32], i: usize) -> u32 {
+    if i < out.len() { out[i] } else { 0 }
 }
 
 // Does the first so many stores of a list.
@@ -212,7 +222,12 @@ fn apply(m: &mut [u8], out: &[u32], pairs: usize) {
     }
     let mut i = 0;
     while i < pairs {
-        store(m, out[2 * i] as usize, 4, out[2 * i + 1] as u64);
+        store(
+            m,
+            number(out, 2 * i) as usize,
+            4,
+            number(out, 2 * i + 1) as u64,
+        );
         i += 1;
     }
 }
@@ -230,6 +245,15 @@ fn soundness(w: &mut [u64], m: &mut [u8]) {
     answer(m, &a);
 }
 
+// The digest with the sheet's text.
+fn with_sheet(area: &[u8], text: &mut [u8], d: u64) -> u64 {
+    let n = meanderpeg_sheet(area, text);
+    if text.len() < n {
+        return d;
+    }
+    digest_bytes(&text[0..n], d)
+}
+
 fn sheet(w: &mut [u64], m: &[u8]) {
     let n = pop(w) as usize;
     let d = pop(w);
@@ -237,10 +261,7 @@ fn sheet(w: &mut [u64], m: &[u8]) {
         return;
     }
     let mut text = [0u8; 4096];
-    let count = meanderpeg_sheet(&m[0..n], &mut text);
-    if count <= 4096 {
-        push(w, digest_bytes(&text[..count], d));
-    }
+    push(w, with_sheet(&m[0..n], &mut text, d));
 }
 
 fn function(w: &mut [u64], m: &mut [u8], out: &mut [u32], c: u8) {
@@ -282,9 +303,7 @@ pub fn run(text: &[u8], w: &mut [u64], m: &mut [u8], out: &mut [u32]) {
         if c == machine::ENDED {
             return;
         }
-        if c != machine::RAN {
-            function(w, m, out, c);
-        }
+        function(w, m, out, c);
         fuel -= 1;
     }
 }
