@@ -116,17 +116,15 @@ fn calculate(w: &mut [u64], c: u8) {
     push(w, calculated(c, a, b));
 }
 
-// One draw (second/GENERATORS.md).
-fn draw(w: &mut [u64]) -> u64 {
-    let x = (get(w, DRAWS) % 2147483648 * 1103515245 + 12345) % 2147483648;
-    set(w, DRAWS, x);
-    x / 65536
+// The draws' state after one draw (second/GENERATORS.md).
+fn drawn(x: u64) -> u64 {
+    (x % 2147483648 * 1103515245 + 12345) % 2147483648
 }
 
 // One of four steps at the start of the draws.
 fn stirred(x: u64) -> u64 {
     let y = x % 2147483648;
-    (times(y, y / 65536 * 2 + 1) % 2147483648 + 12345) % 2147483648
+    drawn(times(y, y / 65536 * 2 + 1) % 2147483648 + 12345)
 }
 
 fn start(w: &mut [u64]) {
@@ -135,7 +133,6 @@ fn start(w: &mut [u64]) {
     let group = pop(w) % 2147483648;
     let x = seed * 69069 + k * 48271 + group * 16807 + 1;
     set(w, DRAWS, stirred(stirred(stirred(stirred(x)))));
-    draw(w);
 }
 
 // The next character; 0 at the end.
@@ -287,8 +284,9 @@ fn order(text: &[u8], w: &mut [u64], m: &mut [u8], c: u8) {
         }
         b'?' => {
             let n = pop(w);
-            let d = draw(w);
-            push(w, calculated(b'%', d, n));
+            let x = drawn(get(w, DRAWS));
+            set(w, DRAWS, x);
+            push(w, calculated(b'%', x / 65536, n));
         }
         b'(' | b')' | b'[' | b']' | b'.' => control(text, w, c),
         b'@' | b'$' => memory(w, m, c),
