@@ -248,10 +248,7 @@ fn soundness(w: &mut [u64], m: &mut [u8]) {
 // The digest with the sheet's text.
 fn with_sheet(area: &[u8], text: &mut [u8], d: u64) -> u64 {
     let n = meanderpeg_sheet(area, text);
-    if text.len() < n {
-        return d;
-    }
-    digest_bytes(&text[0..n], d)
+    digest_bytes(text, 0, n, d)
 }
 
 fn sheet(w: &mut [u64], m: &[u8]) {

@@ -42,21 +42,17 @@ pub fn store(m: &mut [u8], at: usize, width: usize, value: u64) {
 }
 
 // The filler with a tint.
-pub fn filler(s: &mut [u8], tint: u64) {
-    let n = s.len();
-    let mut i = 0;
-    while i < n {
-        s[i] = ((i as u64 % 65536 * 7 + i as u64 / 256 % 256 * 13 + tint % 256) % 256) as u8;
-        i += 1;
+pub fn filler(m: &mut [u8], at: usize, count: usize, tint: u64) {
+    let n = m.len();
+    if n < count {
+        return;
     }
-}
-
-// Every byte the same.
-pub fn level(s: &mut [u8], value: u64) {
-    let n = s.len();
+    if n - count < at {
+        return;
+    }
     let mut i = 0;
-    while i < n {
-        s[i] = (value % 256) as u8;
+    while i < count {
+        m[at + i] = ((i as u64 % 65536 * 7 + i as u64 / 256 % 256 * 13 + tint % 256) % 256) as u8;
         i += 1;
     }
 }
@@ -86,13 +82,36 @@ pub fn digest(d: u64, n: u64) -> u64 {
 }
 
 // A digest with bytes more: their count, then numbers of four bytes.
-pub fn digest_bytes(s: &[u8], before: u64) -> u64 {
-    let n = s.len();
-    let mut d = digest(before, n as u64);
+pub fn digest_bytes(m: &[u8], at: usize, count: usize, before: u64) -> u64 {
+    let n = m.len();
+    let mut d = digest(before, count as u64);
+    if n < count {
+        return d;
+    }
+    if n - count < at {
+        return d;
+    }
     let mut i = 0;
-    while 4 <= n - i {
-        d = digest(d, read32(s, i) as u64);
+    while 4 <= count - i {
+        d = digest(d, read32(m, at + i) as u64);
         i += 4;
     }
-    if i < n { digest(d, load(s, i, 4)) } else { d }
+    if i < count {
+        digest(d, load(m, at + i, count - i))
+    } else {
+        d
+    }
+}
+
+// The CRC-32 of bytes.
+pub fn crc_of(m: &[u8], at: usize, count: usize) -> u64 {
+    let n = m.len();
+    if n < count {
+        return 0;
+    }
+    if n - count < at {
+        return 0;
+    }
+    let end = at + count;
+    crc::crc32(&m[at..end]) as u64
 }

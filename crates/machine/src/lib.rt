@@ -1,5 +1,5 @@
 // A small stack machine that runs a text, one character an order: the test inputs are made by such scripts, whose lines cost no proof.
-// It is total: what lies outside a stack, the memory or the text reads as 0 and is not written. Numbers are modulo 2^64.
+// It is total: what lies outside the memory or the text reads as 0 and is not written. Numbers are modulo 2^64.
 //
 //   # .. line's end    a comment
 //   blank, newline     ends a number
@@ -30,7 +30,8 @@
 //     any other            is the program's own: `step` answers its letter
 //
 // The words w: a variable is the word (letter mod 64), the value stack stands at 64 to 127, frames of two words at 128 to 191 (where to
-// go on, and how many turns are left, 0 for a procedure), procedures' positions at 192 to 255. No letter names the words below.
+// go on, and how many turns are left, 0 for a procedure), procedures' positions at 192 to 255. Both stacks are rings: past the end they go on
+// at the beginning. No letter names the words below.
 // A text between quotes has no `#`, `[`, `(`, `)` or `]` in it.
 pub mod bytes;
 
@@ -61,34 +62,22 @@ fn set(w: &mut [u64], i: usize, v: u64) {
 
 pub fn push(w: &mut [u64], v: u64) {
     let d = get(w, DEPTH);
-    if d < 64 {
-        set(w, DEPTH, d + 1);
-        set(w, 64 + d as usize, v);
-    }
+    set(w, DEPTH, std::num::wrapping_add_u64(d, 1));
+    set(w, 64 + (d % 64) as usize, v);
 }
 
 pub fn pop(w: &mut [u64]) -> u64 {
-    let d = get(w, DEPTH);
-    if d == 0 {
-        return 0;
-    }
-    if 64 < d {
-        return 0;
-    }
-    set(w, DEPTH, d - 1);
-    get(w, 63 + d as usize)
-}
-
-// The product of the lower halves.
-fn product(a: u64, b: u64) -> u64 {
-    (a % 4294967296) * (b % 4294967296)
+    let d = std::num::wrapping_sub_u64(get(w, DEPTH), 1);
+    set(w, DEPTH, d);
+    get(w, 64 + (d % 64) as usize)
 }
 
 // a * b modulo 2^64, by halves.
 fn times(a: u64, b: u64) -> u64 {
-    let x = product(a / 4294967296, b) % 4294967296;
-    let y = product(a, b / 4294967296) % 4294967296;
-    std::num::wrapping_add_u64((x + y) % 4294967296 * 4294967296, product(a, b))
+    let x = a % 4294967296;
+    let y = b % 4294967296;
+    let crossed = (a / 4294967296 * y) % 4294967296 + (b / 4294967296 * x) % 4294967296;
+    std::num::wrapping_add_u64(crossed % 4294967296 * 4294967296, x * y)
 }
 
 fn truth(t: bool) -> u64 {
@@ -108,12 +97,6 @@ fn calculated(c: u8, a: u64, b: u64) -> u64 {
         b'<' => truth(a < b),
         _ => truth(a == b),
     }
-}
-
-fn calculate(w: &mut [u64], c: u8) {
-    let b = pop(w);
-    let a = pop(w);
-    push(w, calculated(c, a, b));
 }
 
 // The draws' state after one draw (second/GENERATORS.md).
@@ -160,23 +143,13 @@ fn digit(w: &mut [u64], c: u8) {
     }
 }
 
-// How many brackets are open behind one character more.
-fn nested(depth: usize, c: u8, open: u8, close: u8) -> usize {
-    if c == close {
-        return if depth == 0 { 0 } else { depth - 1 };
-    }
-    if c == open {
-        return std::num::wrapping_add_usize(depth, 1);
-    }
-    depth
-}
-
 // Behind the end of what is open at `from`.
 fn past(text: &[u8], from: usize, open: u8, close: u8) -> usize {
-    let mut depth: usize = 1;
+    let mut depth: u64 = 1;
     let mut i = from;
     while i < text.len() {
-        depth = nested(depth, text[i], open, close);
+        let opened = std::num::wrapping_add_u64(depth, truth(text[i] == open));
+        depth = std::num::wrapping_sub_u64(opened, truth(text[i] == close));
         i += 1;
         if depth == 0 {
             return i;
@@ -188,34 +161,26 @@ fn past(text: &[u8], from: usize, open: u8, close: u8) -> usize {
 // A frame of a loop, or with no turns of a procedure.
 fn enter(w: &mut [u64], back: u64, turns: u64) {
     let f = get(w, FRAMES);
-    if f < 32 {
-        let at = 128 + 2 * f as usize;
-        set(w, at, back);
-        set(w, at + 1, turns);
-        set(w, FRAMES, f + 1);
-    }
+    let at = 128 + (f % 32 * 2) as usize;
+    set(w, FRAMES, std::num::wrapping_add_u64(f, 1));
+    set(w, at, back);
+    set(w, at + 1, turns);
 }
 
 // The end of a loop's text or of a procedure.
 fn leave(w: &mut [u64]) {
-    let f = get(w, FRAMES);
-    if f == 0 {
-        return;
-    }
-    if 32 < f {
-        return;
-    }
-    let at = 126 + 2 * f as usize;
+    let f = std::num::wrapping_sub_u64(get(w, FRAMES), 1);
+    let at = 128 + (f % 32 * 2) as usize;
     let turns = get(w, at + 1);
     let back = get(w, at);
-    if turns < 2 {
-        set(w, FRAMES, f - 1);
+    if 1 < turns {
+        set(w, at + 1, turns - 1);
+        set(w, POSITION, back);
+    } else {
+        set(w, FRAMES, f);
         if turns == 0 {
             set(w, POSITION, back);
         }
-    } else {
-        set(w, at + 1, turns - 1);
-        set(w, POSITION, back);
     }
 }
 
@@ -277,7 +242,11 @@ fn order(text: &[u8], w: &mut [u64], m: &mut [u8], c: u8) {
             let v = pop(w);
             set(w, name, v);
         }
-        b'+' | b'-' | b'*' | b'/' | b'%' | b'&' | b'|' | b'^' | b'<' | b'=' => calculate(w, c),
+        b'+' | b'-' | b'*' | b'/' | b'%' | b'&' | b'|' | b'^' | b'<' | b'=' => {
+            let b = pop(w);
+            let a = pop(w);
+            push(w, calculated(c, a, b));
+        }
         b'!' => {
             let a = pop(w);
             push(w, truth(a == 0));
@@ -302,41 +271,26 @@ fn order(text: &[u8], w: &mut [u64], m: &mut [u8], c: u8) {
     }
 }
 
-// A function over so many bytes of the memory.
-fn run_over(w: &mut [u64], m: &mut [u8], c: u8, at: usize, n: usize, x: u64) {
-    if m.len() < n {
-        return;
-    }
-    if m.len() - n < at {
-        return;
-    }
-    let end = at + n;
-    match c {
-        b'f' => bytes::filler(&mut m[at..end], x),
-        b'z' => bytes::level(&mut m[at..end], x),
-        b'k' => push(w, crc::crc32(&m[at..end]) as u64),
-        _ => push(w, bytes::digest_bytes(&m[at..end], x)),
-    }
-}
-
-// A function of the machine's own over bytes.
+// A function of the machine's own with three numbers, over bytes. A value is copied on from the first byte.
 fn over(w: &mut [u64], m: &mut [u8], c: u8) {
     let x = pop(w);
     let y = pop(w) as usize;
+    let z = pop(w);
     match c {
-        b'k' => run_over(w, m, c, y, x as usize, 0),
-        b'b' => {
-            let d = pop(w);
-            run_over(w, m, c, y, x as usize, d);
+        b'f' => bytes::filler(m, z as usize, y, x),
+        b'z' => {
+            if 0 < y {
+                bytes::store(m, z as usize, 1, x);
+                bytes::copy(
+                    m,
+                    z as usize,
+                    std::num::wrapping_add_usize(z as usize, 1),
+                    y - 1,
+                );
+            }
         }
-        b'm' => {
-            let from = pop(w) as usize;
-            bytes::copy(m, from, y, x as usize);
-        }
-        _ => {
-            let at = pop(w) as usize;
-            run_over(w, m, c, at, y, x);
-        }
+        b'm' => bytes::copy(m, z as usize, y, x as usize),
+        _ => push(w, bytes::digest_bytes(m, y, x as usize, z)),
     }
 }
 
@@ -347,8 +301,14 @@ fn function(w: &mut [u64], m: &mut [u8], c: u8) -> u8 {
             start(w);
             RAN
         }
-        b'f' | b'z' | b'm' | b'k' | b'b' => {
+        b'f' | b'z' | b'm' | b'b' => {
             over(w, m, c);
+            RAN
+        }
+        b'k' => {
+            let n = pop(w) as usize;
+            let at = pop(w) as usize;
+            push(w, bytes::crc_of(m, at, n));
             RAN
         }
         b'd' => {

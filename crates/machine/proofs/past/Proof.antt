@@ -4,7 +4,9 @@ use lib.ListN.{length}
 use borrow.Author.Needs.{needs}
 use Rattle.machine.proofs.past.Statement.{statement}
 use Rattle.machine.proofs.past.Tie as tie
-use Rattle.machine.proofs.nested.Reads as nested-reads
+use Rattle.machine.proofs.truth.Reads as truth-reads
+use Rattle.std.proofs.num.wrapping_add_u64.Reads as wrapping-add-u64-reads
+use Rattle.std.proofs.num.wrapping_sub_u64.Reads as wrapping-sub-u64-reads
 
 abbrev Inv-loop : tie.InvT-loop
 Inv-loop text from «open» close depth₀ i₀ depth i = from ≤ i
@@ -15,11 +17,23 @@ abbrev μ-loop : tie.MeasureT-loop
 loop-holds : tie.Need-loop-holds Inv-loop μ-loop
 loop-holds c = search needs
 
-shared-slice-read-nested : tie.Need-shared-slice-read-nested Inv-loop μ-loop
-shared-slice-read-nested c = search needs
+shared-slice-read-truth : tie.Need-shared-slice-read-truth Inv-loop μ-loop
+shared-slice-read-truth c = search needs
 
-nested-requires : tie.Need-nested-requires Inv-loop μ-loop
-nested-requires c κs = search needs
+truth-requires : tie.Need-truth-requires Inv-loop μ-loop
+truth-requires c κs = search needs
+
+wrapping-add-u64-requires : tie.Need-wrapping-add-u64-requires Inv-loop μ-loop
+wrapping-add-u64-requires c κs = search needs
+
+shared-slice-read-truth-2 : tie.Need-shared-slice-read-truth-2 Inv-loop μ-loop
+shared-slice-read-truth-2 c = search needs
+
+truth-requires-2 : tie.Need-truth-requires-2 Inv-loop μ-loop
+truth-requires-2 c κs = search needs
+
+wrapping-sub-u64-requires : tie.Need-wrapping-sub-u64-requires Inv-loop μ-loop
+wrapping-sub-u64-requires c κs = search needs
 
 add-i : tie.Need-add-i Inv-loop μ-loop
 add-i c = search needs
@@ -43,8 +57,12 @@ past-spec =
     Inv-loop
     μ-loop
     loop-holds
-    shared-slice-read-nested
-    nested-requires
+    shared-slice-read-truth
+    truth-requires
+    wrapping-add-u64-requires
+    shared-slice-read-truth-2
+    truth-requires-2
+    wrapping-sub-u64-requires
     add-i
     returns
     loop-less
