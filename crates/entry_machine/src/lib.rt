@@ -56,7 +56,7 @@ fn answer(m: &mut [u8], a: &[u64; 13]) {
     }
 }
 
-fn gather(w: &mut [u64], m: &mut [u8]) {
+fn gather(w: &mut [u64; 256], m: &mut [u8]) {
     let first = pop(w);
     let base = pop(w);
     let n = pop(w) as usize;
@@ -99,7 +99,7 @@ fn told(s: &[u8], k: usize) -> [u64; 13] {
     a
 }
 
-fn capsule(w: &mut [u64], m: &mut [u8]) {
+fn capsule(w: &mut [u64; 256], m: &mut [u8]) {
     let k = pop(w) as usize;
     let n = pop(w) as usize;
     if m.len() < n {
@@ -232,7 +232,7 @@ fn apply(m: &mut [u8], out: &[u32], pairs: usize) {
     }
 }
 
-fn soundness(w: &mut [u64], m: &mut [u8]) {
+fn soundness(w: &mut [u64; 256], m: &mut [u8]) {
     let n = pop(w) as usize;
     if m.len() < n {
         return;
@@ -251,7 +251,7 @@ fn with_sheet(area: &[u8], text: &mut [u8], d: u64) -> u64 {
     digest_bytes(text, 0, n, d)
 }
 
-fn sheet(w: &mut [u64], m: &[u8]) {
+fn sheet(w: &mut [u64; 256], m: &[u8]) {
     let n = pop(w) as usize;
     let d = pop(w);
     if m.len() < n {
@@ -261,7 +261,7 @@ fn sheet(w: &mut [u64], m: &[u8]) {
     push(w, with_sheet(&m[0..n], &mut text, d));
 }
 
-fn function(w: &mut [u64], m: &mut [u8], out: &mut [u32], c: u8) {
+fn function(w: &mut [u64; 256], m: &mut [u8], out: &mut [u32], c: u8) {
     match c {
         b'g' => gather(w, m),
         b'p' => capsule(w, m),
@@ -293,7 +293,7 @@ fn function(w: &mut [u64], m: &mut [u8], out: &mut [u32], c: u8) {
 }
 
 // Runs a script that was prepared, at most 2^40 orders of it.
-pub fn run(text: &[u8], w: &mut [u64], m: &mut [u8], out: &mut [u32]) {
+pub fn run(text: &[u8], w: &mut [u64; 256], m: &mut [u8], out: &mut [u32]) {
     let mut fuel: u64 = 1099511627776;
     while 0 < fuel {
         let c = machine::step(text, w, m);

@@ -42,7 +42,7 @@ pub fn store(m: &mut [u8], at: usize, width: usize, value: u64) {
 }
 
 // The filler with a tint.
-pub fn filler(m: &mut [u8], at: usize, count: usize, tint: u64) {
+pub fn filler(m: &mut [u8], at: usize, count: usize, tint: usize) {
     let n = m.len();
     if n < count {
         return;
@@ -52,7 +52,7 @@ pub fn filler(m: &mut [u8], at: usize, count: usize, tint: u64) {
     }
     let mut i = 0;
     while i < count {
-        m[at + i] = ((i as u64 % 65536 * 7 + i as u64 / 256 % 256 * 13 + tint % 256) % 256) as u8;
+        m[at + i] = ((i % 256 * 7 + i / 256 % 256 * 13 + tint % 256) % 256) as u8;
         i += 1;
     }
 }

@@ -8,7 +8,7 @@
 //   : letter           pops into that variable
 //   + - * / %          pop b, pop a, push a op b; 0 where b is a divisor 0
 //   & | ^              and, or, exclusive or of a and b
-//   < =                1 where a < b, where a = b; else 0
+//   < =                1 where a < b, where a = b; else 0 (a character that stands nowhere here does what = does)
 //   !                  pops a; 1 where a is 0, else 0
 //   ?                  pops n; one draw; pushes the draw mod n
 //   ( .. )             pops n; the text between is run n times
@@ -50,26 +50,16 @@ pub const RAN: u8 = 0;
 
 pub const ENDED: u8 = 1;
 
-fn get(w: &[u64], i: usize) -> u64 {
-    if i < w.len() { w[i] } else { 0 }
+pub fn push(w: &mut [u64; 256], v: u64) {
+    let d = w[DEPTH] % 64;
+    w[DEPTH] = d + 1;
+    w[64 + d as usize] = v;
 }
 
-fn set(w: &mut [u64], i: usize, v: u64) {
-    if i < w.len() {
-        w[i] = v;
-    }
-}
-
-pub fn push(w: &mut [u64], v: u64) {
-    let d = get(w, DEPTH);
-    set(w, DEPTH, std::num::wrapping_add_u64(d, 1));
-    set(w, 64 + (d % 64) as usize, v);
-}
-
-pub fn pop(w: &mut [u64]) -> u64 {
-    let d = std::num::wrapping_sub_u64(get(w, DEPTH), 1);
-    set(w, DEPTH, d);
-    get(w, 64 + (d % 64) as usize)
+pub fn pop(w: &mut [u64; 256]) -> u64 {
+    let d = (w[DEPTH] % 64 + 63) % 64;
+    w[DEPTH] = d;
+    w[64 + d as usize]
 }
 
 // a * b modulo 2^64, by halves.
@@ -110,37 +100,34 @@ fn stirred(x: u64) -> u64 {
     drawn(times(y, y / 65536 * 2 + 1) % 2147483648 + 12345)
 }
 
-fn start(w: &mut [u64]) {
+fn start(w: &mut [u64; 256]) {
     let k = pop(w) % 2147483648;
     let seed = pop(w) % 2147483648;
     let group = pop(w) % 2147483648;
     let x = seed * 69069 + k * 48271 + group * 16807 + 1;
-    set(w, DRAWS, stirred(stirred(stirred(stirred(x)))));
+    w[DRAWS] = stirred(stirred(stirred(stirred(x))));
 }
 
 // The next character; 0 at the end.
-fn next(text: &[u8], w: &mut [u64]) -> u8 {
-    let at = get(w, POSITION) as usize;
+fn next(text: &[u8], w: &mut [u64; 256]) -> u8 {
+    let at = w[POSITION] as usize;
     if at < text.len() {
-        set(w, POSITION, at as u64 + 1);
+        w[POSITION] = at as u64 + 1;
         text[at]
     } else {
         0
     }
 }
 
-// A digit goes on with a number where the last order was a digit too: then NUMBER is where this one ends.
-fn digit(w: &mut [u64], c: u8) {
-    let d = (c % 16) as u64;
-    let at = get(w, POSITION);
-    let goes_on = get(w, NUMBER) == at;
-    set(w, NUMBER, std::num::wrapping_add_u64(at, 1));
-    if goes_on {
-        let t = pop(w);
-        push(w, std::num::wrapping_add_u64(times(t, 10), d));
-    } else {
-        push(w, d);
+// A digit goes on with a number where the last order was a digit too, which ended where NUMBER says.
+fn digit(w: &mut [u64; 256], c: u8) {
+    let at = w[POSITION];
+    if w[NUMBER] % 4294967296 + 1 != at {
+        push(w, 0);
     }
+    w[NUMBER] = at;
+    let top = 64 + ((w[DEPTH] % 64 + 63) % 64) as usize;
+    w[top] = std::num::wrapping_add_u64(times(w[top], 10), (c % 16) as u64);
 }
 
 // Behind the end of what is open at `from`.
@@ -159,55 +146,56 @@ fn past(text: &[u8], from: usize, open: u8, close: u8) -> usize {
 }
 
 // A frame of a loop, or with no turns of a procedure.
-fn enter(w: &mut [u64], back: u64, turns: u64) {
-    let f = get(w, FRAMES);
-    let at = 128 + (f % 32 * 2) as usize;
-    set(w, FRAMES, std::num::wrapping_add_u64(f, 1));
-    set(w, at, back);
-    set(w, at + 1, turns);
+fn enter(w: &mut [u64; 256], turns: u64) {
+    let f = w[FRAMES] % 32;
+    let at = 128 + (f * 2) as usize;
+    w[FRAMES] = f + 1;
+    w[at] = w[POSITION];
+    w[at + 1] = turns;
 }
 
 // The end of a loop's text or of a procedure.
-fn leave(w: &mut [u64]) {
-    let f = std::num::wrapping_sub_u64(get(w, FRAMES), 1);
-    let at = 128 + (f % 32 * 2) as usize;
-    let turns = get(w, at + 1);
-    let back = get(w, at);
-    if 1 < turns {
-        set(w, at + 1, turns - 1);
-        set(w, POSITION, back);
+fn leave(w: &mut [u64; 256]) {
+    let f = (w[FRAMES] % 32 + 31) % 32;
+    let at = 128 + (f * 2) as usize;
+    let turns = w[at + 1];
+    if turns != 1 {
+        w[POSITION] = w[at];
+    }
+    if turns < 2 {
+        w[FRAMES] = f;
     } else {
-        set(w, FRAMES, f);
-        if turns == 0 {
-            set(w, POSITION, back);
-        }
+        w[at + 1] = turns - 1;
     }
 }
 
-fn control(text: &[u8], w: &mut [u64], c: u8) {
-    let at = get(w, POSITION);
+// Goes behind the end of what is open.
+fn pass(text: &[u8], w: &mut [u64; 256], open: u8, close: u8) {
+    w[POSITION] = past(text, w[POSITION] as usize, open, close) as u64;
+}
+
+fn control(text: &[u8], w: &mut [u64; 256], c: u8) {
     match c {
         b'(' => {
             let n = pop(w);
             if n == 0 {
-                set(w, POSITION, past(text, at as usize, b'(', b')') as u64);
+                pass(text, w, b'(', b')')
             } else {
-                enter(w, at, n);
+                enter(w, n)
             }
         }
-        b'[' => set(w, POSITION, past(text, at as usize, b'[', b']') as u64),
         b'.' => {
             let name = (next(text, w) % 64) as usize;
-            let back = get(w, POSITION);
-            enter(w, back, 0);
-            let to = get(w, 192 + name);
-            set(w, POSITION, to);
+            enter(w, 0);
+            w[POSITION] = w[192 + name];
         }
+        b'[' => pass(text, w, 0, b']'),
+        b'#' => pass(text, w, 0, b'\n'),
         _ => leave(w),
     }
 }
 
-fn memory(w: &mut [u64], m: &mut [u8], c: u8) {
+fn memory(w: &mut [u64; 256], m: &mut [u8], c: u8) {
     let width = pop(w) as usize;
     let at = pop(w) as usize;
     if c == b'@' {
@@ -219,10 +207,10 @@ fn memory(w: &mut [u64], m: &mut [u8], c: u8) {
 }
 
 // Prints the text up to the next quote.
-fn quote(text: &[u8], w: &mut [u64]) {
-    let at = get(w, POSITION) as usize;
+fn quote(text: &[u8], w: &mut [u64; 256]) {
+    let at = w[POSITION] as usize;
     let end = past(text, at, 0, b'"');
-    set(w, POSITION, end as u64);
+    w[POSITION] = end as u64;
     if text.len() < end {
         return;
     }
@@ -233,51 +221,52 @@ fn quote(text: &[u8], w: &mut [u64]) {
     io::write_all(1, &text[at..last]);
 }
 
-fn order(text: &[u8], w: &mut [u64], m: &mut [u8], c: u8) {
+// An order over the top of the stack and, where it has two numbers, the one below it.
+fn calculate(w: &mut [u64; 256], c: u8) {
+    let b = pop(w);
+    if c == b'!' {
+        push(w, truth(b == 0));
+        return;
+    }
+    if c == b'?' {
+        let x = drawn(w[DRAWS]);
+        w[DRAWS] = x;
+        push(w, calculated(b'%', x / 65536, b));
+        return;
+    }
+    let a = pop(w);
+    push(w, calculated(c, a, b));
+}
+
+fn order(text: &[u8], w: &mut [u64; 256], m: &mut [u8], c: u8) {
     match c {
+        0..=b' ' => {}
         b'0'..=b'9' => digit(w, c),
-        b'a'..=b'z' | b'A'..=b'Z' => push(w, get(w, (c % 64) as usize)),
+        b'a'..=b'z' | b'A'..=b'Z' => {
+            let v = w[(c % 64) as usize];
+            push(w, v);
+        }
         b':' => {
             let name = (next(text, w) % 64) as usize;
-            let v = pop(w);
-            set(w, name, v);
+            w[name] = pop(w);
         }
-        b'+' | b'-' | b'*' | b'/' | b'%' | b'&' | b'|' | b'^' | b'<' | b'=' => {
-            let b = pop(w);
-            let a = pop(w);
-            push(w, calculated(c, a, b));
-        }
-        b'!' => {
-            let a = pop(w);
-            push(w, truth(a == 0));
-        }
-        b'?' => {
-            let n = pop(w);
-            let x = drawn(get(w, DRAWS));
-            set(w, DRAWS, x);
-            push(w, calculated(b'%', x / 65536, n));
-        }
-        b'(' | b')' | b'[' | b']' | b'.' => control(text, w, c),
+        b'(' | b')' | b'[' | b']' | b'.' | b'#' => control(text, w, c),
         b'@' | b'$' => memory(w, m, c),
         b'"' => quote(text, w),
-        b'#' => {
-            let at = get(w, POSITION) as usize;
-            set(w, POSITION, past(text, at, 0, b'\n') as u64);
-        }
         b';' => {
             io::print_decimal(1, pop(w));
         }
-        _ => {}
+        _ => calculate(w, c),
     }
 }
 
 // A function of the machine's own with three numbers, over bytes. A value is copied on from the first byte.
-fn over(w: &mut [u64], m: &mut [u8], c: u8) {
+fn over(w: &mut [u64; 256], m: &mut [u8], c: u8) {
     let x = pop(w);
     let y = pop(w) as usize;
     let z = pop(w);
     match c {
-        b'f' => bytes::filler(m, z as usize, y, x),
+        b'f' => bytes::filler(m, z as usize, y, x as usize),
         b'z' => {
             if 0 < y {
                 bytes::store(m, z as usize, 1, x);
@@ -295,38 +284,30 @@ fn over(w: &mut [u64], m: &mut [u8], c: u8) {
 }
 
 // The functions of the machine's own.
-fn function(w: &mut [u64], m: &mut [u8], c: u8) -> u8 {
+fn function(w: &mut [u64; 256], m: &mut [u8], c: u8) -> u8 {
     match c {
-        b'x' => {
-            start(w);
-            RAN
-        }
-        b'f' | b'z' | b'm' | b'b' => {
-            over(w, m, c);
-            RAN
-        }
+        b'x' => start(w),
+        b'f' | b'z' | b'm' | b'b' => over(w, m, c),
         b'k' => {
             let n = pop(w) as usize;
             let at = pop(w) as usize;
             push(w, bytes::crc_of(m, at, n));
-            RAN
         }
         b'd' => {
             let n = pop(w);
             let d = pop(w);
             push(w, bytes::digest(d, n));
-            RAN
         }
         b'h' => {
             io::print_hex(1, pop(w), 8);
-            RAN
         }
-        _ => c,
+        _ => return c,
     }
+    RAN
 }
 
 // Runs the order at the position.
-pub fn step(text: &[u8], w: &mut [u64], m: &mut [u8]) -> u8 {
+pub fn step(text: &[u8], w: &mut [u64; 256], m: &mut [u8]) -> u8 {
     let c = next(text, w);
     if c == 0 {
         return ENDED;
@@ -340,7 +321,7 @@ pub fn step(text: &[u8], w: &mut [u64], m: &mut [u8]) -> u8 {
 }
 
 // Looks at the character at i, behind a comment's beginning (1) or not (0), and answers which it is then.
-fn look(s: &mut [u8], w: &mut [u64], i: usize, comment: u8) -> u8 {
+fn look(s: &mut [u8], w: &mut [u64; 256], i: usize, comment: u8) -> u8 {
     let c = bytes::byte(s, i);
     if c == b'#' {
         return 1;
@@ -354,14 +335,13 @@ fn look(s: &mut [u8], w: &mut [u64], i: usize, comment: u8) -> u8 {
     }
     if c == b'[' {
         let name = (bytes::byte(s, std::num::wrapping_add_usize(i, 1)) % 64) as usize;
-        set(w, 192 + name, std::num::wrapping_add_u64(i as u64, 2));
-        return 0;
+        w[192 + name] = std::num::wrapping_add_u64(i as u64, 2);
     }
     0
 }
 
 // Blanks the comments of a text, so that no bracket of theirs counts, and notes where procedures begin.
-pub fn prepare(s: &mut [u8], w: &mut [u64]) {
+pub fn prepare(s: &mut [u8], w: &mut [u64; 256]) {
     let n = s.len();
     let mut comment: u8 = 0;
     let mut i = 0;

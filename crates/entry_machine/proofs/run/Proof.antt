@@ -9,7 +9,7 @@ use Rattle.entry_machine.proofs.function.Reads as function-reads
 use Rattle.machine.proofs.step.Reads as step-reads
 
 abbrev Inv-loop : tie.InvT-loop
-Inv-loop text w₀ m₀ out₀ fuel₀ w m out fuel = (length w ≡ length w₀) × (length m ≡ length m₀) × (length out ≡ length out₀)
+Inv-loop text w₀ m₀ out₀ fuel₀ w m out fuel = (length m ≡ length m₀) × (length out ≡ length out₀)
 
 abbrev μ-loop : tie.MeasureT-loop
 μ-loop text w₀ m₀ out₀ fuel₀ w m out fuel = fuel
@@ -26,9 +26,6 @@ same-length c = search needs
 same-length-2 : tie.Need-same-length-2 Inv-loop μ-loop
 same-length-2 c = search needs
 
-same-length-3 : tie.Need-same-length-3 Inv-loop μ-loop
-same-length-3 c = search needs
-
 returns : tie.Need-returns Inv-loop μ-loop
 returns c = search needs
 
@@ -44,14 +41,11 @@ loop-less c = search needs
 loop-again : tie.Need-loop-again Inv-loop μ-loop
 loop-again c = search needs
 
+same-length-3 : tie.Need-same-length-3 Inv-loop μ-loop
+same-length-3 c = search needs
+
 same-length-4 : tie.Need-same-length-4 Inv-loop μ-loop
 same-length-4 c = search needs
-
-same-length-5 : tie.Need-same-length-5 Inv-loop μ-loop
-same-length-5 c = search needs
-
-same-length-6 : tie.Need-same-length-6 Inv-loop μ-loop
-same-length-6 c = search needs
 
 returns-2 : tie.Need-returns-2 Inv-loop μ-loop
 returns-2 c = search needs
@@ -66,13 +60,11 @@ run-spec =
     step-requires
     same-length
     same-length-2
-    same-length-3
     returns
     function-requires
     sub-fuel
     loop-less
     loop-again
+    same-length-3
     same-length-4
-    same-length-5
-    same-length-6
     returns-2)

@@ -8,7 +8,7 @@ use Rattle.machine.proofs.prepare.Tie as tie
 use Rattle.machine.proofs.look.Reads as look-reads
 
 abbrev Inv-loop : tie.InvT-loop
-Inv-loop s₀ w₀ n comment₀ i₀ s w comment i = (i ≤ n) × (length s ≡ length s₀) × (length w ≡ length w₀)
+Inv-loop s₀ w₀ n comment₀ i₀ s w comment i = (i ≤ n) × (length s ≡ length s₀)
 
 abbrev μ-loop : tie.MeasureT-loop
 μ-loop s₀ w₀ n comment₀ i₀ s w comment i = n - i
@@ -31,9 +31,6 @@ loop-again c = search needs
 same-length : tie.Need-same-length Inv-loop μ-loop
 same-length c = search needs
 
-same-length-2 : tie.Need-same-length-2 Inv-loop μ-loop
-same-length-2 c = search needs
-
 returns : tie.Need-returns Inv-loop μ-loop
 returns c = search needs
 
@@ -49,5 +46,4 @@ prepare-spec =
     loop-less
     loop-again
     same-length
-    same-length-2
     returns)
