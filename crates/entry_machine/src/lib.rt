@@ -45,7 +45,7 @@ const ANSWERS: usize = 240000;
 
 const GUID: usize = 239000;
 
-const RESTART: u32 = 4;
+const RESTART: u64 = 4;
 
 // Puts the answers of an entry into the memory.
 fn answer(m: &mut [u8], a: &[u64; 13]) {
@@ -141,6 +141,26 @@ fn low(n: u64) -> u32 {
 fn call(
     which: u64,
     area: &[u8],
+    request: u32,
+    kind: &mut u32,
+    bank: &mut u32,
+    set: &mut u32,
+    out: &mut [u32],
+    pairs: &mut usize,
+) -> u32 {
+    match which {
+        0 => meanderpeg_start_up(area, request, kind),
+        1 => meanderpeg_repair(area, out, pairs),
+        2 => meanderpeg_begin(kind, bank, set, area, out, pairs),
+        5 => meanderpeg_cancel(kind, bank, set, area, out, pairs),
+        _ => meanderpeg_select_previous(kind, bank, set, area, out, pairs),
+    }
+}
+
+// The same with the calls that are told an image, or tell that some are missing.
+fn any_call(
+    which: u64,
+    area: &[u8],
     guid: &[u8; 16],
     request: u32,
     kind: &mut u32,
@@ -151,24 +171,60 @@ fn call(
     missing: &mut u32,
 ) -> u32 {
     match which {
-        0 => meanderpeg_start_up(area, request, kind),
-        1 => meanderpeg_repair(area, out, pairs),
-        2 => meanderpeg_begin(kind, bank, set, area, out, pairs),
         3 => meanderpeg_commit(kind, bank, set, area, guid, request, out, pairs),
         4 => meanderpeg_end(kind, bank, set, area, out, pairs, missing),
-        5 => meanderpeg_cancel(kind, bank, set, area, out, pairs),
         6 => meanderpeg_accept(kind, bank, set, area, guid, out, pairs),
-        _ => meanderpeg_select_previous(kind, bank, set, area, out, pairs),
+        _ => call(which, area, request, kind, bank, set, out, pairs),
     }
 }
 
-// A word of the session before the call: start-up and repair have Restart.
-fn before(m: &[u8], which: u64, at: usize, restart: u32) -> u32 {
+// The session before the call, as answers: start-up and repair have Restart.
+fn session_before(m: &[u8], which: u64) -> [u64; 13] {
+    let mut a = [0u64; 13];
     if which < 2 {
-        restart
-    } else {
-        low(load(m, at, 8))
+        a[1] = RESTART;
+        return a;
     }
+    a[1] = load(m, ANSWERS + 8, 8);
+    a[2] = load(m, ANSWERS + 16, 8);
+    a[3] = load(m, ANSWERS + 24, 8);
+    a
+}
+
+// The answers of a call, but for what it altered.
+fn answers(
+    which: u64,
+    area: &[u8],
+    guid: [u8; 16],
+    request: u32,
+    before: [u64; 13],
+    out: &mut [u32],
+) -> [u64; 13] {
+    let mut kind = low(before[1]);
+    let mut bank = low(before[2]);
+    let mut set = low(before[3]);
+    let mut pairs: usize = 0;
+    let mut missing: u32 = 0;
+    let number = any_call(
+        which,
+        area,
+        &guid,
+        request,
+        &mut kind,
+        &mut bank,
+        &mut set,
+        out,
+        &mut pairs,
+        &mut missing,
+    );
+    let mut a = [0u64; 13];
+    a[0] = number as u64;
+    a[1] = kind as u64;
+    a[2] = bank as u64;
+    a[3] = set as u64;
+    a[4] = pairs as u64;
+    a[5] = missing as u64;
+    a
 }
 
 fn called(m: &mut [u8], out: &mut [u32], which: u64, n: usize, k: usize, request: u64) {
@@ -181,32 +237,11 @@ fn called(m: &mut [u8], out: &mut [u32], which: u64, n: usize, k: usize, request
     if out.len() < k {
         return;
     }
-    let mut kind = before(m, which, ANSWERS + 8, RESTART);
-    let mut bank = before(m, which, ANSWERS + 16, 0);
-    let mut set = before(m, which, ANSWERS + 24, 0);
-    let mut pairs: usize = 0;
-    let mut missing: u32 = 0;
     let guid = fields::read_guid(m, GUID);
+    let before = session_before(m, which);
     fill(out);
-    let number = call(
-        which,
-        &m[0..n],
-        &guid,
-        low(request),
-        &mut kind,
-        &mut bank,
-        &mut set,
-        &mut out[0..k],
-        &mut pairs,
-        &mut missing,
-    );
-    let mut a = [0u64; 13];
-    a[0] = number as u64;
-    a[1] = kind as u64;
-    a[2] = bank as u64;
-    a[3] = set as u64;
-    a[4] = pairs as u64;
-    a[5] = missing as u64;
+    let mut a = answers(which, &m[0..n], guid, low(request), before, &mut out[0..k]);
+    let pairs = a[4] as usize;
     a[6] = altered(out, pairs);
     answer(m, &a);
 }
