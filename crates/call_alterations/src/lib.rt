@@ -1,9 +1,9 @@
 // What each call alters in the record (document 01, "Session and calls").
 use alterations::Alteration;
+use bank_states::all_accepted;
 use changes::all_accepted_with;
 use changes::states_with;
 use changes::update_bank;
-use bank_states::all_accepted;
 use fields::read16;
 use fields::read32;
 ghost use mathlib.Core.Path.{_≡_};

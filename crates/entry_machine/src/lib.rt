@@ -12,29 +12,29 @@
 //     s L                    soundness: number, bits (99 with a refusal)
 //     t digest L             pushes the digest with the bench sheet's text
 // Where a length is past m or out, nothing is done.
-use c_interface::meanderpeg_accept;
-use c_interface::meanderpeg_begin;
-use c_interface::meanderpeg_cancel;
-use c_interface::meanderpeg_capsule_drivers;
-use c_interface::meanderpeg_capsule_hardware_instance;
-use c_interface::meanderpeg_capsule_image_index;
-use c_interface::meanderpeg_capsule_image_length;
-use c_interface::meanderpeg_capsule_image_start;
-use c_interface::meanderpeg_capsule_item_length;
-use c_interface::meanderpeg_capsule_item_start;
-use c_interface::meanderpeg_capsule_payloads;
-use c_interface::meanderpeg_capsule_refusal;
-use c_interface::meanderpeg_capsule_type_guid;
-use c_interface::meanderpeg_capsule_vendor_code_length;
-use c_interface::meanderpeg_capsule_vendor_code_start;
-use c_interface::meanderpeg_commit;
-use c_interface::meanderpeg_end;
-use c_interface::meanderpeg_gather;
-use c_interface::meanderpeg_repair;
-use c_interface::meanderpeg_select_previous;
-use c_interface::meanderpeg_sheet;
-use c_interface::meanderpeg_soundness;
-use c_interface::meanderpeg_start_up;
+use c_accept::meanderpeg_accept;
+use c_accept::meanderpeg_select_previous;
+use c_begin::meanderpeg_begin;
+use c_begin::meanderpeg_cancel;
+use c_capsule::meanderpeg_capsule_image_length;
+use c_capsule::meanderpeg_capsule_image_start;
+use c_capsule::meanderpeg_capsule_item_length;
+use c_capsule::meanderpeg_capsule_item_start;
+use c_capsule::meanderpeg_capsule_refusal;
+use c_capsule::meanderpeg_capsule_vendor_code_length;
+use c_capsule::meanderpeg_capsule_vendor_code_start;
+use c_commit::meanderpeg_commit;
+use c_commit::meanderpeg_end;
+use c_gather::meanderpeg_gather;
+use c_record::meanderpeg_repair;
+use c_record::meanderpeg_sheet;
+use c_record::meanderpeg_soundness;
+use c_record::meanderpeg_start_up;
+use c_values::meanderpeg_capsule_drivers;
+use c_values::meanderpeg_capsule_hardware_instance;
+use c_values::meanderpeg_capsule_image_index;
+use c_values::meanderpeg_capsule_payloads;
+use c_values::meanderpeg_capsule_type_guid;
 use machine::bytes::digest_bytes;
 use machine::bytes::load;
 use machine::bytes::store;
@@ -338,4 +338,13 @@ pub fn run(text: &[u8], w: &mut [u64; 256], m: &mut [u8], out: &mut [u32]) {
         function(w, m, out, c);
         fuel -= 1;
     }
+}
+
+// Runs a script from its start, with a memory of 256 KiB and a store slice of 4,300 numbers.
+pub fn play(text: &mut [u8]) {
+    let mut w = [0u64; 256];
+    let mut m = [0u8; 262144];
+    let mut out = [0u32; 4300];
+    machine::prepare(text, &mut w);
+    run(text, &mut w, &mut m, &mut out);
 }

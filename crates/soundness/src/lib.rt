@@ -1,7 +1,7 @@
 // Whether a copy is sound (document 01, "The record"): the fourteen rules, in their order.
-use crc::crc32;
 use bank_states::banks_rule;
 use bank_states::states_rule;
+use crc::crc32;
 use entries::accepted_rule;
 use entries::reserved_rule;
 use entries::type_guids_rule;
