@@ -296,27 +296,26 @@ fn sheet(w: &mut [u64; 256], m: &[u8]) {
     push(w, with_sheet(&m[0..n], &mut text, d));
 }
 
+// Start-up, repair and the six calls, with their numbers from the stack.
+fn entry(w: &mut [u64; 256], m: &mut [u8], out: &mut [u32], c: u8) {
+    let x = pop(w);
+    let y = pop(w) as usize;
+    match c {
+        b'u' => called(m, out, 0, y, 0, x),
+        b'r' => called(m, out, 1, y, x as usize, 0),
+        _ => {
+            let n = pop(w) as usize;
+            let which = pop(w);
+            called(m, out, which, n, y, x);
+        }
+    }
+}
+
 fn function(w: &mut [u64; 256], m: &mut [u8], out: &mut [u32], c: u8) {
     match c {
         b'g' => gather(w, m),
         b'p' => capsule(w, m),
-        b'u' => {
-            let booted = pop(w);
-            let n = pop(w) as usize;
-            called(m, out, 0, n, 0, booted);
-        }
-        b'r' => {
-            let k = pop(w) as usize;
-            let n = pop(w) as usize;
-            called(m, out, 1, n, k, 0);
-        }
-        b'c' => {
-            let request = pop(w);
-            let k = pop(w) as usize;
-            let n = pop(w) as usize;
-            let which = pop(w);
-            called(m, out, which, n, k, request);
-        }
+        b'u' | b'r' | b'c' => entry(w, m, out, c),
         b'a' => {
             let pairs = pop(w) as usize;
             apply(m, out, pairs);
