@@ -4,8 +4,6 @@ use lib.ListN.{length}
 use borrow.Author.Needs.{needs}
 use Rattle.entry_machine.proofs.altered.Statement.{statement}
 use Rattle.entry_machine.proofs.altered.Tie as tie
-use Rattle.entry_machine.proofs.differs.Reads as differs-reads
-use Rattle.std.proofs.num.wrapping_add_u64.Reads as wrapping-add-u64-reads
 
 abbrev Inv-loop : tie.InvT-loop
 Inv-loop out pairs count₀ i₀ count i = 0 ≤ i

@@ -5,7 +5,6 @@ use lib.ListN.{length}
 use borrow.Author.Needs.{needs}
 use Rattle.entry_machine.proofs.answer.Statement.{statement}
 use Rattle.entry_machine.proofs.answer.Tie as tie
-use Rattle.machine.proofs.bytes.store.Reads as store-reads
 
 abbrev Inv-loop : tie.InvT-loop
 Inv-loop m₀ a i₀ m i = (i ≤ 13) × (length m ≡ length m₀)

@@ -5,8 +5,6 @@ use lib.ListN.{length}
 use borrow.Author.Needs.{needs}
 use Rattle.entry_machine.proofs.apply.Statement.{statement}
 use Rattle.entry_machine.proofs.apply.Tie as tie
-use Rattle.entry_machine.proofs.number.Reads as number-reads
-use Rattle.machine.proofs.bytes.store.Reads as store-reads
 
 abbrev Inv-loop : tie.InvT-loop
 Inv-loop m₀ out pairs i₀ m i = (i ≤ pairs) × (length m ≡ length m₀)

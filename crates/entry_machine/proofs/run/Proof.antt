@@ -1,12 +1,9 @@
 -- Safety alone: each turn takes one from the fuel. Assumes nothing.
 use mathlib.Core.Path.{_≡_}
-use Prim.Native.Nat.{}
 use lib.ListN.{length}
 use borrow.Author.Needs.{needs}
 use Rattle.entry_machine.proofs.run.Statement.{statement}
 use Rattle.entry_machine.proofs.run.Tie as tie
-use Rattle.entry_machine.proofs.function.Reads as function-reads
-use Rattle.machine.proofs.step.Reads as step-reads
 
 abbrev Inv-loop : tie.InvT-loop
 Inv-loop text w₀ m₀ out₀ fuel₀ w m out fuel = (length m ≡ length m₀) × (length out ≡ length out₀)

@@ -4,9 +4,6 @@ use lib.ListN.{length}
 use borrow.Author.Needs.{needs}
 use Rattle.machine.proofs.past.Statement.{statement}
 use Rattle.machine.proofs.past.Tie as tie
-use Rattle.machine.proofs.truth.Reads as truth-reads
-use Rattle.std.proofs.num.wrapping_add_u64.Reads as wrapping-add-u64-reads
-use Rattle.std.proofs.num.wrapping_sub_u64.Reads as wrapping-sub-u64-reads
 
 abbrev Inv-loop : tie.InvT-loop
 Inv-loop text from «open» close depth₀ i₀ depth i = from ≤ i

@@ -5,7 +5,6 @@ use lib.ListN.{length}
 use borrow.Author.Needs.{needs}
 use Rattle.machine.proofs.prepare.Statement.{statement}
 use Rattle.machine.proofs.prepare.Tie as tie
-use Rattle.machine.proofs.look.Reads as look-reads
 
 abbrev Inv-loop : tie.InvT-loop
 Inv-loop s₀ w₀ n comment₀ i₀ s w comment i = (i ≤ n) × (length s ≡ length s₀)

@@ -3,9 +3,6 @@ use Prim.Native.Nat.{_≤_, _-_}
 use borrow.Author.Needs.{needs}
 use Rattle.machine.proofs.bytes.digest_bytes.Statement.{statement}
 use Rattle.machine.proofs.bytes.digest_bytes.Tie as tie
-use Rattle.fields.proofs.read32.Reads as read32-reads
-use Rattle.machine.proofs.bytes.digest.Reads as digest-reads
-use Rattle.machine.proofs.bytes.load.Reads as load-reads
 
 abbrev Inv-loop : tie.InvT-loop
 Inv-loop m at count before n d₀ i₀ d i = i ≤ count

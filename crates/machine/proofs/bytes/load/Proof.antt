@@ -3,7 +3,6 @@ use Prim.Native.Nat.{_≤_}
 use borrow.Author.Needs.{needs}
 use Rattle.machine.proofs.bytes.load.Statement.{statement}
 use Rattle.machine.proofs.bytes.load.Tie as tie
-use Rattle.machine.proofs.bytes.byte.Reads as byte-reads
 
 abbrev Inv-loop : tie.InvT-loop
 Inv-loop m at width v₀ i₀ v i = i ≤ width
