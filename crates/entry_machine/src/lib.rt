@@ -47,6 +47,19 @@ const GUID: usize = 239000;
 
 const RESTART: u64 = 4;
 
+// What stands behind a reference before a call, so that a refusal that alters it is seen; and eight such bytes.
+const BEFORE: u64 = 99;
+
+const BYTES_BEFORE: u64 = 0x6363_6363_6363_6363;
+
+// What stands behind a reference, as an answer: with a refusal how it differs from what stood there, so 0 where it is as it was.
+fn behind(number: u32, v: u64, before: u64) -> u64 {
+    if number == 0 {
+        return v;
+    }
+    v ^ before
+}
+
 // Puts the answers of an entry into the memory.
 fn answer(m: &mut [u8], a: &[u64; 13]) {
     let mut i = 0;
@@ -63,13 +76,13 @@ fn gather(w: &mut [u64; 256], m: &mut [u8]) {
     if m.len() < n {
         return;
     }
-    let mut address: u64 = 0;
-    let mut total: u64 = 0;
+    let mut address = BEFORE;
+    let mut total = BEFORE;
     let number = meanderpeg_gather(&mut m[0..n], base, first, &mut address, &mut total);
     let mut a = [0u64; 13];
     a[0] = number as u64;
-    a[1] = address;
-    a[2] = total;
+    a[1] = behind(number, address, BEFORE);
+    a[2] = behind(number, total, BEFORE);
     answer(m, &a);
 }
 
@@ -81,17 +94,21 @@ fn half(guid: &[u8; 16], at: usize) -> u64 {
 // What is told of item k of the capsule s.
 fn told(s: &[u8], k: usize) -> [u64; 13] {
     let mut a = [0u64; 13];
-    let mut guid = [0u8; 16];
-    a[0] = meanderpeg_capsule_refusal(s, k) as u64;
+    let mut guid = [99u8; 16];
+    let number = meanderpeg_capsule_type_guid(s, k, &mut guid);
+    a[0] = if number == meanderpeg_capsule_refusal(s, k) {
+        number as u64
+    } else {
+        1000
+    };
     a[1] = meanderpeg_capsule_item_start(s, k) as u64;
     a[2] = meanderpeg_capsule_item_length(s, k) as u64;
     a[3] = meanderpeg_capsule_image_start(s, k) as u64;
     a[4] = meanderpeg_capsule_image_length(s, k) as u64;
     a[5] = meanderpeg_capsule_vendor_code_start(s, k) as u64;
     a[6] = meanderpeg_capsule_vendor_code_length(s, k) as u64;
-    meanderpeg_capsule_type_guid(s, k, &mut guid);
-    a[7] = half(&guid, 0);
-    a[8] = half(&guid, 8);
+    a[7] = behind(number, half(&guid, 0), BYTES_BEFORE);
+    a[8] = behind(number, half(&guid, 8), BYTES_BEFORE);
     a[9] = meanderpeg_capsule_image_index(s, k) as u64;
     a[10] = meanderpeg_capsule_hardware_instance(s, k);
     a[11] = meanderpeg_capsule_drivers(s) as u64;
@@ -203,8 +220,8 @@ fn answers(
     let mut kind = low(before[1]);
     let mut bank = low(before[2]);
     let mut set = low(before[3]);
-    let mut pairs: usize = 0;
-    let mut missing: u32 = 0;
+    let mut pairs = BEFORE as usize;
+    let mut missing = BEFORE as u32;
     let number = any_call(
         which,
         area,
@@ -222,8 +239,16 @@ fn answers(
     a[1] = kind as u64;
     a[2] = bank as u64;
     a[3] = set as u64;
-    a[4] = pairs as u64;
-    a[5] = missing as u64;
+    a[4] = if which == 0 {
+        0
+    } else {
+        behind(number, pairs as u64, BEFORE)
+    };
+    a[5] = if number == 27 {
+        missing as u64
+    } else {
+        behind(1, missing as u64, BEFORE)
+    };
     a
 }
 
