@@ -114,8 +114,8 @@ uint64_t meanderpeg_capsule_hardware_instance(const uint8_t *capsule, size_t cap
 
 /* ---- The record ---- */
 
-/* Which copies are sound: bit 0 for copy 0, bit 1 for copy 1, bit 2 where both are and are equal ("Copies are equal if their
- * records are, byte for byte."). So 0, 1, 2, 3 or 7. Refusal 20. */
+/* Sets `copies` to which copies are sound: bit 0 for copy 0, bit 1 for copy 1, bit 2 where both are and are equal ("Copies are
+ * equal if their records are, byte for byte."). So 0, 1, 2, 3 or 7. Refusal 20, which leaves it as it was. */
 uint32_t meanderpeg_soundness(const uint8_t *area, size_t area_length, uint32_t *copies);
 
 /* The bench sheet's text at the front of `text`; answers how many bytes it has, and every byte past it stays. A refused area has
