@@ -375,6 +375,7 @@ pub fn capsule_input(seed: u64, k: u64) -> CapsuleInput {
     let gap = d.below(3) as usize;
     let tail = d.below(5) as usize;
     let (drivers, payloads) = match shape {
+        _ if case == 6 => (p % 64, 63 - p % 64),
         _ if case == 7 => (p, 65 - p),
         0 => (0, 0),
         1 => (0, 1 + q),
@@ -438,7 +439,7 @@ pub fn capsule_input(seed: u64, k: u64) -> CapsuleInput {
     match case {
         8 => length = [0, 1, 27, 28][v],
         9 => put(&mut c, 24, 4, [length - 1, length + 1, length + 65_536, 0][v] as u128),
-        10 => put(&mut c, 16, 4, [27, 0, length, length + 1][v] as u128),
+        10 => put(&mut c, 16, 4, [27, if z % 2 == 0 { 0 } else { length - 1 }, length, length + 1][v] as u128),
         11 => put(&mut c, 20, 4, [0x0004_0000u128, 0x0006_0000, 0xFFFE_FFFF, 0x0005_0000][v]),
         12 => c[z] = ((c[z] as usize + 1) % 256) as u8,
         13 => {
@@ -665,8 +666,8 @@ pub fn break_rule(copy: &mut [u8], plan: &RecordPlan, rule: u64, v: usize, i: us
         9 => match v {
             0 => put(copy, 8, 4, plan.banks as u128),
             1 => put(copy, 12, 4, plan.banks as u128),
-            2 => put(copy, 8, 4, 4_294_967_295),
-            _ => put(copy, 12, 4, 256),
+            2 => put(copy, 8, 4, if z % 2 == 0 { 4_294_967_295 } else { plan.banks as u128 + 1 }),
+            _ => put(copy, 12, 4, if z % 2 == 0 { 256 } else { plan.banks as u128 + 1 }),
         },
         10 => put(copy, bank_at(im, b) + 16, 4, [2u128, 3, 256, 2_147_483_649][v]),
         11 => {
@@ -759,7 +760,7 @@ pub fn call_input(call: u64, seed: u64, k: u64) -> CallInput {
     let request = [0u32, 1, 2_147_483_648, 0][r];
     let booted = match o {
         3 => update,
-        4 => banks,
+        4 => banks + z as u32 % 2,
         5 if z % 2 == 0 => 4_294_967_295,
         5 => 256,
         _ => plan.active,

@@ -165,18 +165,18 @@ fn the_place_is_the_lowest() {
 fn digests_as_they_stand() {
     let stand: [(&str, u64, u64); 13] = [
         ("gather", 0x6312795c, 0xb7d28e8b),
-        ("capsule", 0xbf1803f4, 0xa1c0a09b),
-        ("start_up", 0x55bc7d13, 0xaa667d26),
-        ("repair", 0xa7a2eefb, 0x4ae29e35),
-        ("begin", 0x78dfb3dd, 0x9b359d6a),
-        ("commit", 0xe7a6af41, 0xbc82659c),
-        ("end", 0x23bcf7d3, 0x9ebded42),
-        ("cancel", 0x912f27c1, 0x89b93e8f),
-        ("accept", 0x572be857, 0x3bc270ab),
-        ("select_previous", 0x5fe2da54, 0x57ec8a40),
+        ("capsule", 0xae263e4e, 0x0086bd15),
+        ("start_up", 0x5d0a116b, 0xaa667d26),
+        ("repair", 0x7307d0b0, 0x416c296c),
+        ("begin", 0x0fa593aa, 0xbbd746ad),
+        ("commit", 0x8317e400, 0x1c1bb619),
+        ("end", 0x59387be8, 0x509efd7b),
+        ("cancel", 0xe25d1c07, 0x12f1f1e8),
+        ("accept", 0x346214cf, 0xf6456e96),
+        ("select_previous", 0x6510fcfc, 0x6efbe396),
         ("sheet", 0x980634b7, 0x7abffa25),
-        ("soundness", 0xcb121824, 0x1874a96d),
-        ("rules", 0xcb121824, 0x3475f319),
+        ("soundness", 0x46c1268d, 0x1874a96d),
+        ("rules", 0x46c1268d, 0x3475f319),
     ];
     for (entry, inputs, answers) in stand {
         let mut account = Account::default();
