@@ -7,7 +7,7 @@ use crate::gather::gather;
 use crate::inputs::*;
 use crate::record;
 use crate::session::*;
-use crate::sheet::sheet;
+use crate::sheet::{sheet, sheet_in, SHEET_BYTES};
 
 /// The entries, by name, in the order in which they are reported. The last has no place in the comparison with
 /// crates/random_tests, which asks for soundness instead: the product's interface tells no failing rule's number.
@@ -47,22 +47,39 @@ pub fn outcomes(entry: &str) -> Vec<String> {
         "start_up" => (
             &[20, 21, 28],
             &[
-                "accepted, Regular, area as it was",
-                "accepted, Trial, area as it was",
-                "accepted, Fallback, area as it was",
+                "accepted, Regular, copy 0 read",
+                "accepted, Regular, copy 1 read",
+                "accepted, Trial, copy 0 read",
+                "accepted, Trial, copy 1 read",
+                "accepted, Fallback, copy 0 read",
+                "accepted, Fallback, copy 1 read",
             ],
         ),
-        "repair" => (&[20, 21, 23], &["accepted, Restart, area as it was", "accepted, Restart, area altered"]),
+        "repair" => {
+            (&[20, 21, 23], &["accepted, no store", "accepted, copy 0 written", "accepted, copy 1 written"])
+        }
         "begin" => (
             &[20, 21, 22, 23, 24, 25],
-            &["accepted, Staging, area as it was", "accepted, Staging, area altered"],
+            &[
+                "accepted, from Regular, area as it was",
+                "accepted, from Regular, area altered",
+                "accepted, from Staging, area as it was",
+                "accepted, from Staging, area altered",
+                "kind above 4",
+            ],
         ),
         "commit" => (
             &[20, 21, 22, 23, 24, 25, 26],
-            &["accepted, Staging, area as it was", "accepted, Staging, area altered"],
+            &[
+                "accepted, request 0, area as it was",
+                "accepted, request 0, area altered",
+                "accepted, request above 0, area as it was",
+                "accepted, request above 0, area altered",
+                "kind above 4",
+            ],
         ),
-        "end" => (&[20, 21, 22, 23, 24, 25, 27], &["accepted, Restart, area altered"]),
-        "cancel" => (&[20, 21, 22, 23, 24, 25], &["accepted, Regular, area as it was"]),
+        "end" => (&[20, 21, 22, 23, 24, 25, 27], &["accepted, to 252", "accepted, to 254", "kind above 4"]),
+        "cancel" => (&[20, 21, 22, 23, 24, 25], &["accepted, area as it was", "kind above 4"]),
         "accept" => (
             &[20, 21, 22, 23, 24, 25, 26],
             &[
@@ -70,13 +87,20 @@ pub fn outcomes(entry: &str) -> Vec<String> {
                 "accepted, Regular, area altered",
                 "accepted, Trial, area as it was",
                 "accepted, Trial, area altered",
+                "kind above 4",
             ],
         ),
         "select_previous" => (
             &[20, 21, 22, 23, 24, 25],
-            &["accepted, Restart, area as it was", "accepted, Restart, area altered"],
+            &[
+                "accepted, from Trial, area as it was",
+                "accepted, from Trial, area altered",
+                "accepted, from Fallback, area as it was",
+                "accepted, from Fallback, area altered",
+                "kind above 4",
+            ],
         ),
-        "sheet" => (&[], &["refused 20", "refused 21", "record 0", "record 1"]),
+        "sheet" => (&[], &["refused 20", "refused 21", "record 0", "record 1", "slice too short"]),
         "soundness" => (&[20], &SOUNDNESS),
         _ => (&[], &[]),
     };
@@ -186,17 +210,6 @@ index {index}, instance {instance:#x}, counts {drivers} and {payloads}",
     )
 }
 
-/// Kind, bank and set of a session, as the digest takes them.
-pub fn session_words(session: Session) -> (u32, u32, u32) {
-    match session {
-        Session::Regular => (0, 0, 0),
-        Session::Staging { bank, set } => (1, bank, set),
-        Session::Trial => (2, 0, 0),
-        Session::Fallback => (3, 0, 0),
-        Session::Restart => (4, 0, 0),
-    }
-}
-
 /// The call's answer: 0 start-up, 1 repair, 2 Begin, 3 Commit, 4 End, 5 Cancel, 6 Accept, 7 Select previous.
 pub fn call_answer(call: u64, i: &CallInput) -> Answer {
     match call {
@@ -211,16 +224,49 @@ pub fn call_answer(call: u64, i: &CallInput) -> Answer {
     }
 }
 
-fn take_session(digest: &mut Digest, session: Session) {
-    let (kind, bank, set) = session_words(session);
+fn take_session(digest: &mut Digest, (kind, bank, set): (u32, u32, u32)) {
     digest.word(kind);
     digest.word(bank);
     digest.word(set);
 }
 
+/// The session's three numbers after the call: "the session as it was" with a refusal, else those of the next one.
+pub fn raw_after(input: &CallInput, answer: &Answer) -> (u32, u32, u32) {
+    if answer.refusal > 0 {
+        input.raw
+    } else {
+        session_words(answer.session)
+    }
+}
+
+fn name_of(session: Session) -> &'static str {
+    ["Regular", "Staging", "Trial", "Fallback", "Restart"][session_words(session).0 as usize]
+}
+
+/// The outcome's name, as `outcomes` tells it.
+fn outcome_of(call: u64, input: &CallInput, answer: &Answer) -> String {
+    if answer.refusal > 0 {
+        return format!("refusal {}", answer.refusal);
+    }
+    let altered = if answer.area == input.area { "area as it was" } else { "area altered" };
+    let copy = record::record_read(&input.area).expect("a sound copy").0;
+    let new = answer.record.as_ref().expect("a record");
+    match call {
+        0 => format!("accepted, {}, copy {copy} read", name_of(answer.session)),
+        1 if repair_lists_none(&input.area, input.slice_len) => "accepted, no store".to_string(),
+        1 => format!("accepted, copy {} written", 1 - copy),
+        3 if input.request == 0 => format!("accepted, request 0, {altered}"),
+        3 => format!("accepted, request above 0, {altered}"),
+        4 => format!("accepted, to {}", record::state(new, record::active(new))),
+        5 => format!("accepted, {altered}"),
+        6 => format!("accepted, {}, {altered}", name_of(answer.session)),
+        _ => format!("accepted, from {}, {altered}", name_of(input.session)),
+    }
+}
+
 fn answer_call(call: u64, seed: u64, k: u64, account: &mut Account) -> String {
     let input = call_input(call, seed, k);
-    take_session(&mut account.inputs, input.session);
+    take_session(&mut account.inputs, input.raw);
     account.inputs.long(input.slice_len);
     account.inputs.bytes(&input.guid);
     account.inputs.word(input.request);
@@ -229,7 +275,7 @@ fn answer_call(call: u64, seed: u64, k: u64, account: &mut Account) -> String {
     let answer = call_answer(call, &input);
     account.answers.word(answer.refusal);
     account.answers.word(answer.missing);
-    take_session(&mut account.answers, answer.session);
+    take_session(&mut account.answers, raw_after(&input, &answer));
     account.answers.bytes(&answer.area);
     if call == 1 {
         account.answers.word(if repair_lists_none(&input.area, input.slice_len) { 1 } else { 0 });
@@ -237,38 +283,51 @@ fn answer_call(call: u64, seed: u64, k: u64, account: &mut Account) -> String {
     if call >= 1 {
         // "Numbers past the list stay": none is altered.
         account.answers.word(0);
+        // "Offsets are multiples of 4 inside one of the two record ranges": none is another.
+        account.answers.word(0);
+        // The list has at most 2,100 pairs.
+        account.answers.word(0);
     }
-    let altered = if answer.area == input.area { "as it was" } else { "altered" };
-    if answer.refusal > 0 {
-        account.tally.add(&format!("refusal {}", answer.refusal));
-    } else {
-        let kind = session_words(answer.session).0;
-        let next = ["Regular", "Staging", "Trial", "Fallback", "Restart"][kind as usize];
-        account.tally.add(&format!("accepted, {next}, area {altered}"));
+    let outcome = outcome_of(call, &input, &answer);
+    account.tally.add(&outcome);
+    if input.raw.0 > 4 {
+        account.tally.add("kind above 4");
     }
     format!(
-        "{:?}, area of {} bytes, slice {}, guid {:02x?}, request {}, booted {}: refusal {}, missing {}, {:?}, area {altered}",
+        "{:?} by {:?}, area of {} bytes, slice {}, guid {:02x?}, request {}, booted {}: {outcome}, missing {}, {:?}",
         input.session,
+        input.raw,
         input.area.len(),
         input.slice_len,
         input.guid,
         input.request,
         input.booted,
-        answer.refusal,
         answer.missing,
         answer.session
     )
 }
 
-/// The sheet of the area that input k of start-up holds.
+/// The buffer whose first bytes are lent for a sheet, and what each of its bytes holds before.
+const SHEET_BUFFER: usize = 4_352;
+const SHEET_FILL: u8 = 99;
+
+/// The sheet of the area that input k of start-up holds, in a lent slice.
 fn answer_sheet(seed: u64, k: u64, account: &mut Account) -> String {
-    let area = call_input(0, seed, k).area;
-    account.inputs.bytes(&area);
-    let text = sheet(&area);
-    account.answers.bytes(text.as_bytes());
+    let input = sheet_input(seed, k);
+    account.inputs.bytes(&input.area);
+    account.inputs.word(input.slice_len as u32);
+    let mut buffer = [SHEET_FILL; SHEET_BUFFER];
+    let count = sheet_in(&input.area, &mut buffer[..input.slice_len]);
+    account.answers.word(count as u32);
+    account.answers.bytes(&buffer);
+    let text = sheet(&input.area);
     let first = text.lines().next().unwrap_or("");
-    account.tally.add(&first.split('\t').take(2).collect::<Vec<_>>().join(" "));
-    text
+    if input.slice_len < SHEET_BYTES {
+        account.tally.add("slice too short");
+    } else {
+        account.tally.add(&first.split('\t').take(2).collect::<Vec<_>>().join(" "));
+    }
+    format!("slice of {} bytes, {count} answered:\n{text}", input.slice_len)
 }
 
 /// The soundness of the area that input k of repair holds: 1 for copy 0, 2 for copy 1, 4 where both are sound and equal, added;

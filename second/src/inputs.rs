@@ -5,7 +5,7 @@ use crate::bytes::put;
 use crate::capsule::FMP_GUID;
 use crate::make::*;
 use crate::record::{AREA, COPY};
-use crate::session::Session;
+use crate::session::{session_of_words, session_words, Session};
 
 /// A tiny pseudo-random sequence whose state stays below 2^31.
 pub struct Draw {
@@ -146,7 +146,7 @@ pub fn gather_input(seed: u64, k: u64) -> GatherInput {
             let first = match d.below(6) {
                 0 => plus(first, 1),
                 1 => plus(first, 4),
-                2 => less(base, 8),
+                2 => less(plus(base, lead), 8),
                 3 => plus(base, lead + 8 * slots),
                 4 => plus(base, lead + 8 * (slots - 1)),
                 _ => less(0, 8),
@@ -155,7 +155,7 @@ pub fn gather_input(seed: u64, k: u64) -> GatherInput {
         }
         9 => {
             let mut window = filled(n, tint);
-            let (length, address) = match d.below(12) {
+            let (length, address) = match d.below(13) {
                 0 => (4, less(base, 1)),
                 1 => (4, base),
                 2 => (4, plus(base, n - 4)),
@@ -167,7 +167,8 @@ pub fn gather_input(seed: u64, k: u64) -> GatherInput {
                 8 => (1, plus(base, n - 1)),
                 9 => (1, plus(base, n)),
                 10 => (n - lead - 32, plus(base, lead + 32)),
-                _ => (1, less(base, 1)),
+                11 => (1, less(base, 1)),
+                _ => (4_294_967_300, base),
             };
             put_descriptor(&mut window, lead as usize, length, address);
             put_descriptor(&mut window, lead as usize + 16, 0, 0);
@@ -210,8 +211,12 @@ pub fn gather_input(seed: u64, k: u64) -> GatherInput {
         12 => {
             let m = d.below(5);
             let y = 1 + d.below(3);
-            let v = d.below(4);
+            let v = d.below(8);
             let mut window = filled(n, tint);
+            let slots = (n - lead - 16) / 8 + 1;
+            if v == 6 {
+                put_descriptor(&mut window, (lead + 8 * (slots - 1)) as usize, 0, 0);
+            }
             for i in 0..m {
                 put_descriptor(&mut window, (lead + 16 * i) as usize, y, plus(base, n - y));
             }
@@ -219,7 +224,11 @@ pub fn gather_input(seed: u64, k: u64) -> GatherInput {
                 0 => plus(base, lead + 16 * m),
                 1 => plus(base, lead),
                 2 => plus(base, lead + 16 * (m / 2)),
-                _ => plus(base, lead + 4),
+                3 => plus(base, lead + 4),
+                4 => less(plus(base, lead), 8),
+                5 => plus(base, lead + 8 * slots),
+                6 => plus(base, lead + 8 * (slots - 1)),
+                _ => plus(base, lead + 1),
             };
             put_descriptor(&mut window, (lead + 16 * m) as usize, 0, to);
             GatherInput { window, base, first: plus(base, lead) }
@@ -436,10 +445,19 @@ pub fn capsule_input(seed: u64, k: u64) -> CapsuleInput {
     let neighbour = if count >= 2 { Some(1 + i % (count - 1)) } else { None };
     let some_payload = if payloads >= 1 { Some(drivers + i % payloads) } else { None };
     let list = header + 8;
+    if (8..11).contains(&case) && i % 2 == 1 {
+        // What comes later in the order of refusals is wrong too.
+        put(&mut c, 20, 4, 0x0004_0000);
+        c[z] = ((c[z] as usize + 1) % 256) as u8;
+        put(&mut c, header, 4, 2);
+    }
     match case {
         8 => length = [0, 1, 27, 28][v],
         9 => put(&mut c, 24, 4, [length - 1, length + 1, length + 65_536, 0][v] as u128),
-        10 => put(&mut c, 16, 4, [27, if z % 2 == 0 { 0 } else { length - 1 }, length, length + 1][v] as u128),
+        10 => {
+            let other = [0, length - 1, header + 65_536, header + 2_147_483_648][z % 4];
+            put(&mut c, 16, 4, [27, other, length, length + 1][v] as u128);
+        }
         11 => put(&mut c, 20, 4, [0x0004_0000u128, 0x0006_0000, 0xFFFE_FFFF, 0x0005_0000][v]),
         12 => c[z] = ((c[z] as usize + 1) % 256) as u8,
         13 => {
@@ -451,8 +469,8 @@ pub fn capsule_input(seed: u64, k: u64) -> CapsuleInput {
         }
         14 => put(&mut c, header, 4, [0u128, 2, 257, 2_147_483_649][v]),
         15 => match v {
-            0 => put(&mut c, header + 6, 2, payloads as u128 + 1),
-            1 => put(&mut c, header + 4, 2, drivers as u128 + 1),
+            0 => put(&mut c, header + 6, 2, payloads as u128 + if z % 2 == 0 { 1 } else { 256 }),
+            1 => put(&mut c, header + 4, 2, drivers as u128 + if z % 2 == 0 { 1 } else { 256 }),
             2 => put(&mut c, header + 6, 2, 65 - drivers as u128),
             _ => {
                 put(&mut c, header + 4, 2, 65_535);
@@ -462,7 +480,7 @@ pub fn capsule_input(seed: u64, k: u64) -> CapsuleInput {
         16 => {
             if let Some(m) = neighbour {
                 let before = offsets[m - 1] as u128;
-                put(&mut c, list + 8 * m, 8, [before, before - 1, before + 1, before + 4_294_967_296][v]);
+                put(&mut c, list + 8 * m, 8, [before, before - 1, before + 1, offsets[m] as u128 + 4_294_967_296][v]);
             }
         }
         17 => {
@@ -474,6 +492,9 @@ pub fn capsule_input(seed: u64, k: u64) -> CapsuleInput {
             if count >= 1 {
                 let body = cursor as u128;
                 put(&mut c, list + 8 * (count - 1), 8, [body - 1, body, body + 1, u64::MAX as u128][v]);
+            }
+            if payloads >= 1 && i % 2 == 1 {
+                put(&mut c, header + offsets[drivers], 4, 3);
             }
         }
         19 => {
@@ -499,7 +520,8 @@ pub fn capsule_input(seed: u64, k: u64) -> CapsuleInput {
                 let (field, other) = if case == 21 { (24, 28) } else { (28, 24) };
                 let taken = headers[m] + c[at + other] as usize;
                 let room = (offsets[m + 1] - offsets[m] - taken) as u128;
-                let value = [if room > 0 { room - 1 } else { 0 }, room, room + 1, 4_294_967_295][v];
+                let most = if z % 2 == 0 { 4_294_967_295 } else { room + 65_536 };
+                let value = [if room > 0 { room - 1 } else { 0 }, room, room + 1, most][v];
                 put(&mut c, at + field, 4, value);
             }
         }
@@ -569,7 +591,10 @@ pub const CALL_CASES: u64 = 24;
 #[derive(Clone, Debug)]
 pub struct CallInput {
     pub area: Vec<u8>,
+    /// What `raw` means.
     pub session: Session,
+    /// The session as three numbers: kind, bank, set.
+    pub raw: (u32, u32, u32),
     pub slice_len: u64,
     pub guid: [u8; 16],
     pub request: u32,
@@ -642,6 +667,9 @@ fn past_a_limit(plan: &RecordPlan, rule: u64) -> RecordPlan {
     past
 }
 
+/// How many ways of breaking a rule there are, numbered from 1.
+pub const BROKEN_RULES: u64 = 20;
+
 /// The recipe "a broken rule": breaks one rule in a copy that holds the plan's record, by three numbers drawn before.
 pub fn break_rule(copy: &mut [u8], plan: &RecordPlan, rule: u64, v: usize, i: usize, z: usize) {
     let b = z % plan.banks;
@@ -654,8 +682,14 @@ pub fn break_rule(copy: &mut [u8], plan: &RecordPlan, rule: u64, v: usize, i: us
         2 => put(copy, 32, 1, [0u128, 1, 5, 255][v]),
         3 => put(copy, 34, 2, [0u128, 33, 256 + plan.images as u128, 65_535][v]),
         4 => put(copy, 38, 2, [0u128, 23, 25, 280][v]),
-        5 => put(copy, 36, 2, [entry_size - 1, entry_size + 1, entry_size - 24, entry_size + 24][v] as u128),
-        6 => put(copy, 16, 4, [size - 1, size + 1, size - entry_size, size + entry_size][v] as u128),
+        5 => {
+            let other = if z % 2 == 0 { entry_size - 24 } else { entry_size + 256 };
+            put(copy, 36, 2, [entry_size - 1, entry_size + 1, other, entry_size + 24][v] as u128);
+        }
+        6 => {
+            let other = if z % 2 == 0 { size - entry_size } else { size + 2_147_483_648 };
+            put(copy, 16, 4, [size - 1, size + 1, other, size + entry_size][v] as u128);
+        }
         7 => put(copy, 20, 2, [0u128, 31, 33, 288][v]),
         8 => match v {
             0 => copy[22 + z % 2] = 1,
@@ -666,23 +700,32 @@ pub fn break_rule(copy: &mut [u8], plan: &RecordPlan, rule: u64, v: usize, i: us
         9 => match v {
             0 => put(copy, 8, 4, plan.banks as u128),
             1 => put(copy, 12, 4, plan.banks as u128),
-            2 => put(copy, 8, 4, if z % 2 == 0 { 4_294_967_295 } else { plan.banks as u128 + 1 }),
-            _ => put(copy, 12, 4, if z % 2 == 0 { 256 } else { plan.banks as u128 + 1 }),
+            2 => put(copy, 8, 4, if z % 2 == 0 { 2_147_483_648 + plan.active as u128 } else { plan.banks as u128 + 1 }),
+            _ => put(copy, 12, 4, if z % 2 == 0 { 2_147_483_648 + plan.previous as u128 } else { plan.banks as u128 + 1 }),
         },
         10 => put(copy, bank_at(im, b) + 16, 4, [2u128, 3, 256, 2_147_483_649][v]),
         11 => {
             if plan.images >= 2 {
-                let other = type_guid_for((im + 1) % plan.images, plan.guid_place);
-                let at = 40 + im * entry_size;
-                copy[at..at + 16].copy_from_slice(&other);
+                let last = plan.images - 1;
+                let (to, from) = match v {
+                    0 => (im, (im + 1) % plan.images),
+                    1 => (0, last),
+                    2 => (last, last - 1),
+                    _ => (im, (im + 1 + z % last) % plan.images),
+                };
+                let at = 40 + to * entry_size;
+                copy[at..at + 16].copy_from_slice(&type_guid_for(from, plan.guid_place));
             }
         }
-        12 => match v {
-            0 => copy[24 + b] = 253,
-            1 => copy[24 + b] = 251,
-            2 => copy[27] = if plan.banks < 4 { 252 } else { 0 },
-            _ => copy[27] = if plan.banks < 4 { 254 } else { 250 },
-        },
+        12 => {
+            let past = if plan.banks < 4 { plan.banks + z % (4 - plan.banks) } else { 3 };
+            match v {
+                0 => copy[24 + b] = 253,
+                1 => copy[24 + b] = 251,
+                2 => copy[24 + past] = if plan.banks < 4 { 252 } else { 0 },
+                _ => copy[24 + past] = if plan.banks < 4 { 254 } else { 250 },
+            }
+        }
         13 => match v {
             1 => {
                 copy[24 + b] = 252;
@@ -697,6 +740,16 @@ pub fn break_rule(copy: &mut [u8], plan: &RecordPlan, rule: u64, v: usize, i: us
             _ => copy[24 + plan.active as usize] = 255,
         },
         14 => copy[z % 4] = ((copy[z % 4] as usize + 1) % 256) as u8,
+        19 => {
+            let other = [entry_size - 1, entry_size + 1, entry_size + 4, entry_size + 24][v];
+            let record = laid_out(plan, other, 24);
+            copy[..record.len()].copy_from_slice(&record);
+        }
+        20 => {
+            let other = [20, 23, 25, 28][v];
+            let record = laid_out(plan, 32 + other * plan.banks, other);
+            copy[..record.len()].copy_from_slice(&record);
+        }
         _ => {
             let record = record_bytes(&past_a_limit(plan, rule));
             copy[..record.len()].copy_from_slice(&record);
@@ -715,8 +768,27 @@ fn put_words(copy: &mut [u8], record: &[u8], words: usize) {
     copy[..4 * words].copy_from_slice(&record[..4 * words]);
 }
 
+/// Input k of the bench sheet: an area and the length of the slice lent.
+#[derive(Clone, Debug)]
+pub struct SheetInput {
+    pub area: Vec<u8>,
+    pub slice_len: usize,
+}
+
+/// The area of start-up's input k; the draws go on where that input's ended.
+pub fn sheet_input(seed: u64, k: u64) -> SheetInput {
+    let (input, mut d) = call_input_and_draw(0, seed, k);
+    let s = d.below(8) as usize;
+    SheetInput { area: input.area, slice_len: if s < 4 { [0, 4_095, 4_097, 4_200][s] } else { 4_096 } }
+}
+
 /// Input k of a call: 0 start-up, 1 repair, 2 Begin, 3 Commit, 4 End, 5 Cancel, 6 Accept, 7 Select previous.
 pub fn call_input(call: u64, seed: u64, k: u64) -> CallInput {
+    call_input_and_draw(call, seed, k).0
+}
+
+/// Input k of a call, and the sequence as its draws left it.
+fn call_input_and_draw(call: u64, seed: u64, k: u64) -> (CallInput, Draw) {
     let mut d = Draw::start(3 + call, seed, k);
     let case = k % CALL_CASES;
     let round = k / CALL_CASES;
@@ -762,24 +834,28 @@ pub fn call_input(call: u64, seed: u64, k: u64) -> CallInput {
         3 => update,
         4 => banks + z as u32 % 2,
         5 if z % 2 == 0 => 4_294_967_295,
-        5 => 256,
+        5 => 2_147_483_648 + plan.active,
         _ => plan.active,
     };
     let mut slice_len = 4_200;
 
     // What the case alters in session and plan, before the record is made.
+    let mut raw = None;
+    if case == 5 || case == 7 || case == 20 {
+        let kind = [0, 1, 2, 3, 4, 5, 2_147_483_648 + session_words(session).0, 4_294_967_295][z % 8];
+        raw = Some(match kind {
+            1 => (kind, update, w & full),
+            _ if v % 2 == 1 => (kind, w % 5, w),
+            _ => (kind, 0, 0),
+        });
+    }
+    if case == 4 || case == 5 || case == 20 || (case == 11 && v > 0) {
+        guid[z] = ((guid[z] as usize + 1) % 256) as u8;
+    }
     match case {
-        7 => {
-            session = match z % 5 {
-                0 => Session::Regular,
-                1 => Session::Staging { bank: update, set: w & full },
-                2 => Session::Trial,
-                3 => Session::Fallback,
-                _ => Session::Restart,
-            }
-        }
+        4 => session = Session::Staging { bank: (update + 1) % banks, set: w & full },
         8 | 22 => {
-            let last = if z % 2 == 0 { plan.active } else { 256 + update };
+            let last = if z % 2 == 0 { plan.active } else { 2_147_483_648 + update };
             let bank = [(update + 1) % banks, banks, 4_294_967_295, last][v];
             session = Session::Staging { bank, set: w & full };
             plan.states[update as usize] = 255;
@@ -795,15 +871,15 @@ pub fn call_input(call: u64, seed: u64, k: u64) -> CallInput {
             session = Session::Staging { bank: update, set: (w & full) | bit };
             plan.states[update as usize] = 255;
         }
-        11 => {
-            if v == 0 {
-                guid = type_guid_for(plan.images, plan.guid_place);
-            } else {
-                guid[z] = ((guid[z] as usize + 1) % 256) as u8;
-            }
-        }
+        11 if v == 0 => guid = type_guid_for(plan.images, plan.guid_place),
+        13 if y == 1 => session = Session::Staging { bank: 4_294_967_295, set: w },
+        _ => {}
+    }
+    match case {
+        4 if v == 1 => slice_len = 4_199,
         12 => slice_len = [0, 4_198, 4_199, 4_201][v],
         20 => slice_len = 4_199,
+        22 if y == 1 => slice_len = 4_199,
         _ => {}
     }
 
@@ -812,13 +888,28 @@ pub fn call_input(call: u64, seed: u64, k: u64) -> CallInput {
     let mut area = make_area(&record, &record, tint);
 
     // What the case alters in the area.
-    let rule = 1 + round % 18;
+    let rule = 1 + round % BROKEN_RULES;
     match case {
+        4 | 5 => {
+            let unsound = if case == 4 { v } else { r };
+            if unsound >= 2 {
+                put(&mut area, COPY + 4, 4, 0);
+            }
+            if unsound == 3 {
+                put(&mut area, 4, 4, 0);
+            }
+        }
         6 => {
-            let at = COPY + 40 + im * (32 + 24 * plan.banks) + 16 + z % 12;
+            let part = if v % 2 == 0 { 16 } else { 32 + 24 * (plan.banks - 1) };
+            let at = COPY + 40 + im * (32 + 24 * plan.banks) + part + z % 12;
             for (j, byte) in SAME_CRC.iter().enumerate() {
                 area[at + j] ^= byte;
             }
+        }
+        11 if v == 0 => {
+            // The GUID that no entry has stands right behind the last.
+            area[size..size + 16].copy_from_slice(&guid);
+            area[COPY + size..COPY + size + 16].copy_from_slice(&guid);
         }
         14 => break_rule(&mut area[..COPY], &plan, rule, v, i, z),
         15 => break_rule(&mut area[COPY..], &plan, rule, v, i, z),
@@ -882,5 +973,7 @@ pub fn call_input(call: u64, seed: u64, k: u64) -> CallInput {
     if case == 20 && v >= 2 {
         area.resize(AREA - 1, 0);
     }
-    CallInput { area, session, slice_len, guid, request, booted }
+    // Start-up and repair are given no session.
+    let raw = if call < 2 { session_words(Session::Restart) } else { raw.unwrap_or(session_words(session)) };
+    (CallInput { area, session: session_of_words(raw), raw, slice_len, guid, request, booted }, d)
 }

@@ -31,9 +31,15 @@ pub fn type_guid_for(image: usize, place: usize) -> [u8; 16] {
 /// A plan may pass the limits by one: in a fifth bank no image is accepted, a 33rd image is accepted where image 0 is.
 /// Location GUID of image i: byte j is (16 i + j) mod 256. Image GUID of image i in bank b: byte j is (4 i + b + 17 j) mod 256.
 pub fn record_bytes(plan: &RecordPlan) -> Vec<u8> {
-    let entry_size = 32 + 24 * plan.banks;
+    with_crc(laid_out(plan, 32 + 24 * plan.banks, 24))
+}
+
+/// The record of a plan without its CRC, laid out with these sizes of an image's entry and of a bank's: all is put in
+/// ascending order, whole, and bytes that nothing covers are 0. With smaller sizes the last entry may pass the size.
+pub fn laid_out(plan: &RecordPlan, entry_size: usize, bank_size: usize) -> Vec<u8> {
     let size = 40 + plan.images * entry_size;
-    let mut r = vec![0u8; size];
+    let mut r = vec![0u8; size + 24];
+    let mut end = size;
     put(&mut r, 4, 4, 2);
     put(&mut r, 8, 4, plan.active as u128);
     put(&mut r, 12, 4, plan.previous as u128);
@@ -45,7 +51,7 @@ pub fn record_bytes(plan: &RecordPlan) -> Vec<u8> {
     r[32] = plan.banks as u8;
     put(&mut r, 34, 2, plan.images as u128);
     put(&mut r, 36, 2, entry_size as u128);
-    put(&mut r, 38, 2, 24);
+    put(&mut r, 38, 2, bank_size as u128);
     for i in 0..plan.images {
         let at = 40 + i * entry_size;
         r[at..at + 16].copy_from_slice(&type_guid_for(i, plan.guid_place));
@@ -53,15 +59,17 @@ pub fn record_bytes(plan: &RecordPlan) -> Vec<u8> {
             r[at + 16 + j] = ((16 * i + j) % 256) as u8;
         }
         for b in 0..plan.banks {
-            let bank_at = at + 32 + 24 * b;
+            let bank_at = at + 32 + bank_size * b;
+            end = end.max(bank_at + 24);
             for j in 0..16 {
                 r[bank_at + j] = ((4 * i + b + 17 * j) % 256) as u8;
             }
             let accepted = if b < 4 { (plan.accepted[b] >> (i % 32)) & 1 } else { 0 };
-            put(&mut r, bank_at + 16, 4, accepted as u128);
+            put(&mut r, bank_at + 16, 8, accepted as u128);
         }
     }
-    with_crc(r)
+    r.truncate(end);
+    r
 }
 
 /// All images' bits.
@@ -98,9 +106,10 @@ pub fn make_area(zero: &[u8], one: &[u8], tint: usize) -> Vec<u8> {
     area
 }
 
-/// Works the CRC of a copy anew over bytes 4 to its size field, where that is 40 to 8,192; else leaves it.
+/// Works the CRC of a copy anew over bytes 4 to n, n being the lower 16 bits of its size field, where n is 40 to 8,192; else
+/// leaves it.
 pub fn renew_crc(copy: &mut [u8]) {
-    let size = crate::record::size(copy);
+    let size = crate::bytes::number(copy, 16, 2);
     if (40..=8192).contains(&size) {
         let crc = crc32(&copy[4..size as usize]);
         put(copy, 0, 4, crc as u128);

@@ -17,6 +17,28 @@ pub enum Session {
     Restart,
 }
 
+/// Kind, bank and set of a session as three numbers; bank and set are 0 but for Staging.
+pub fn session_words(session: Session) -> (u32, u32, u32) {
+    match session {
+        Session::Regular => (0, 0, 0),
+        Session::Staging { bank, set } => (1, bank, set),
+        Session::Trial => (2, 0, 0),
+        Session::Fallback => (3, 0, 0),
+        Session::Restart => (4, 0, 0),
+    }
+}
+
+/// The session that three numbers mean. Bank and set are read with kind 1 alone; a kind above 4 is taken as Restart.
+pub fn session_of_words((kind, bank, set): (u32, u32, u32)) -> Session {
+    match kind {
+        0 => Session::Regular,
+        1 => Session::Staging { bank, set },
+        2 => Session::Trial,
+        3 => Session::Fallback,
+        _ => Session::Restart,
+    }
+}
+
 #[derive(Clone, PartialEq, Eq, Debug)]
 pub struct Answer {
     /// The next session; with a refusal the one given. Restart for repair and for a refused start-up, where none was.

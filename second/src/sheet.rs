@@ -27,3 +27,17 @@ pub fn sheet(input: &[u8]) -> String {
     }
     text
 }
+
+/// A slice for a sheet must hold so many bytes, whatever the sheet's length.
+pub const SHEET_BYTES: usize = 4_096;
+
+/// The sheet in a lent slice: the text at its start, the rest as it was, and the text's length. A slice that is too short
+/// stays as it was, and the answer is 0.
+pub fn sheet_in(input: &[u8], slice: &mut [u8]) -> usize {
+    if slice.len() < SHEET_BYTES {
+        return 0;
+    }
+    let text = sheet(input);
+    slice[..text.len()].copy_from_slice(text.as_bytes());
+    text.len()
+}

@@ -71,7 +71,7 @@ fn bad_lists_are_seen() {
 fn plain_lists_of_random_changes_keep_demand_3() {
     let mut tried = 0;
     for call in 2..8 {
-        for k in 0..400 {
+        for k in 0..600 {
             let input = second::inputs::call_input(call, 7, k);
             let answer = second::answers::call_answer(call, &input);
             let new = match answer.record {

@@ -2,7 +2,7 @@
 
 use second::make::*;
 use second::record::COPY;
-use second::sheet::sheet;
+use second::sheet::{sheet, sheet_in};
 
 #[test]
 fn the_example_byte_for_byte() {
@@ -39,4 +39,26 @@ fn refused_20() {
     assert_eq!(sheet(&area[..16_383]), "refused\t20\n");
     area.push(0);
     assert_eq!(sheet(&area), "refused\t20\n");
+}
+
+#[test]
+fn in_a_lent_slice() {
+    let r = make_record(4, 32, 0, 1);
+    let area = make_area(&r, &r, 4);
+    let text = sheet(&area);
+    for length in [0, 1, 4_095] {
+        let mut slice = vec![7; length];
+        assert_eq!(sheet_in(&area, &mut slice), 0);
+        assert_eq!(sheet_in(&area[1..], &mut slice), 0);
+        assert_eq!(slice, vec![7; length]);
+    }
+    for length in [4_096, 4_097, 5_000] {
+        let mut slice = vec![7; length];
+        assert_eq!(sheet_in(&area, &mut slice), text.len());
+        assert_eq!(&slice[..text.len()], text.as_bytes());
+        assert!(slice[text.len()..].iter().all(|&byte| byte == 7));
+        let mut slice = vec![7; length];
+        assert_eq!(sheet_in(&area[1..], &mut slice), 11);
+        assert_eq!(&slice[..12], b"refused\t20\n\x07");
+    }
 }

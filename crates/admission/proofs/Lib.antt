@@ -1,5 +1,3 @@
--- Laws of the set and of the tests, for the proofs here and in the crates above.
-pub mod Bits
-pub mod Known
-pub mod Gates
-pub mod SetLaws
+-- Laws of the record that both copies hold and of the lines, for the proofs here and in the crates above.
+pub mod Held
+pub mod Lines

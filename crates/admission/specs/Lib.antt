@@ -1,4 +1,3 @@
--- The set of committed images, and what is tested before a session is looked at. Assumes nothing.
-pub mod Set
-pub mod SetLaws
-pub mod Gates
+-- The record that both copies hold, and what a call's line gives over numbers. Assumes nothing.
+pub mod Held
+pub mod Lines

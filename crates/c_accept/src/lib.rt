@@ -1,10 +1,11 @@
 // The way in from C and Rust (include/meanderpeg.h): the calls Accept and Select previous. Each passes and answers as those of
 // crate `c_begin` do, an array of 16 bytes as a pointer.
-use c_session::give;
+use c_answer::give;
 use c_session::session_of;
 ghost use mathlib.Core.Path.{_≡_};
 ghost use Rattle.session.specs.Calls.{acceptCall, selectPreviousCall};
-ghost use Rattle.c_session.specs.Numbers.{sessionOf, exportedCall};
+ghost use Rattle.c_session.specs.Numbers.{sessionOf};
+ghost use Rattle.c_answer.specs.Answers.{exportedCall};
 
 // By type GUID.
 #[no_mangle]

@@ -2,11 +2,12 @@
 // behind a reference as a pointer. Each call takes the session as three numbers, lists the stores of the change, and sets the
 // next session's three numbers and the count of pairs. An answer of 0 is accepted, else it is the refusal's number, and then
 // what was lent is as it was.
-use c_session::give;
+use c_answer::give;
 use c_session::session_of;
 ghost use mathlib.Core.Path.{_≡_};
 ghost use Rattle.session.specs.Calls.{beginCall, cancelCall};
-ghost use Rattle.c_session.specs.Numbers.{sessionOf, exportedCall};
+ghost use Rattle.c_session.specs.Numbers.{sessionOf};
+ghost use Rattle.c_answer.specs.Answers.{exportedCall};
 
 // Opens a Staging session.
 #[no_mangle]

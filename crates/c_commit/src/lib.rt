@@ -1,11 +1,12 @@
 // The way in from C and Rust (include/meanderpeg.h): the calls Commit and End. Each passes and answers as those of crate `c_begin`
 // do, an array of 16 bytes as a pointer.
-use c_session::give;
-use c_session::give_missing;
+use c_answer::give;
+use c_answer::give_missing;
 use c_session::session_of;
 ghost use mathlib.Core.Path.{_≡_};
 ghost use Rattle.session.specs.Calls.{commitCall, endCall};
-ghost use Rattle.c_session.specs.Numbers.{sessionOf, exportedCall, exportedEnd};
+ghost use Rattle.c_session.specs.Numbers.{sessionOf};
+ghost use Rattle.c_answer.specs.Answers.{exportedCall, exportedEnd};
 
 // By type GUID and a request.
 #[no_mangle]

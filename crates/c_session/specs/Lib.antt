@@ -1,2 +1,2 @@
--- What the exported functions of the record take and give in numbers. Assumes nothing.
+-- A session in numbers. Assumes nothing.
 pub mod Numbers

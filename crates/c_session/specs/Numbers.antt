@@ -1,12 +1,9 @@
--- A session and an answer in numbers, as the exported functions take and give them (include/meanderpeg.h). Assumes nothing.
+-- A session in numbers, as the exported functions take and give it (include/meanderpeg.h). Assumes nothing.
 use Prim.Native.Nat.{ℕ}
 use mathlib.Core.Bool.{cond}
-use mathlib.Core.List.{List, [], _∷_}
 use lib.Dec.{eqb}
 use Rattle.session.specs.declared.Session.{Session}
 use Rattle.session.specs.declared.Session.the-variants.{Regular, Staging, Trial, Fallback, Restart}
-use Rattle.session.specs.Outcome.{Decision, accepted, refusal, Outcome}
-use Rattle.session.specs.Calls.{Result}
 
 -- "Five session states: Regular, Staging, Trial, Fallback, Restart", numbered in that order from 0
 abbrev pub kindOf : Session → ℕ
@@ -36,46 +33,3 @@ setOf Restart = 0
 unfoldable pub sessionOf : (kind bank set : ℕ) → Session
 sessionOf kind bank set =
     cond (eqb kind 0) Regular (cond (eqb kind 1) (Staging bank set) (cond (eqb kind 2) Trial (cond (eqb kind 3) Fallback Restart)))
-
--- The number answered, and what stands behind the references at exit: 0 and the next values where accepted, else the refusal's number and what
--- stood there
-abbrev pub answered : {A : Type 0} → Decision → (next old : A) → ℕ × A
-answered accepted next old = (0, next)
-answered (refusal number values) next old = (number, old)
-
--- start-up: the kind of the session
-abbrev pub exportedKind : Outcome → (kind : ℕ) → ℕ × ℕ
-exportedKind o kind = answered (o .1) (kindOf (o .0)) kind
-
--- repair: the count of pairs
-abbrev pub exportedPairs : Outcome → (pairs : ℕ) → ℕ × ℕ
-exportedPairs o pairs = answered (o .1) (o .2) pairs
-
--- a call: kind, bank and set of the session, and the count of pairs
-abbrev pub Numbers : Type 0
-Numbers = ℕ × ℕ × ℕ × ℕ
-
-abbrev pub exportedAnswer : Outcome → Numbers → ℕ × Numbers
-exportedAnswer o old = answered (o .1) (kindOf (o .0), bankOf (o .0), setOf (o .0), o .2) old
-
--- "27 also the count": what a refusal tells beside its number, and no other number has any
-abbrev pub missingOr : (old : ℕ) → (values : List ℕ) → ℕ
-missingOr old [] = old
-missingOr old (count ∷ more) = count
-
-abbrev pub toldBy : Decision → List ℕ
-toldBy accepted = []
-toldBy (refusal number values) = values
-
-abbrev pub exportedMissing : Outcome → (missing : ℕ) → ℕ
-exportedMissing o missing = missingOr missing (toldBy (o .1))
-
--- with the store slice at exit: repair, a call, and End with its count of missing images
-abbrev pub exportedRepair : Result → (pairs : ℕ) → (ℕ × ℕ) × List ℕ
-exportedRepair result pairs = (exportedPairs (result .0) pairs, result .1)
-
-abbrev pub exportedCall : Result → Numbers → (ℕ × Numbers) × List ℕ
-exportedCall result old = (exportedAnswer (result .0) old, result .1)
-
-abbrev pub exportedEnd : Result → Numbers → (missing : ℕ) → (ℕ × Numbers) × ℕ × List ℕ
-exportedEnd result old missing = (exportedAnswer (result .0) old, exportedMissing (result .0) missing, result .1)

@@ -1,13 +1,7 @@
-// A session and an answer as the exported functions have them: a session in three numbers, an answer in a number and in
-// numbers behind references, which a refusal leaves as they were.
-use refusals::Refusal;
-use session::Answer;
+// A session as the exported functions have it: in three numbers.
 use session::Session;
-use session::Verdict;
 ghost use mathlib.Core.Path.{_≡_};
-ghost use Rattle.refusals.specs.Number.{valuesOf};
-ghost use Rattle.session.specs.Outcome.{outcomeOf};
-ghost use Rattle.c_session.specs.Numbers.{kindOf, bankOf, setOf, sessionOf, missingOr, exportedKind, exportedPairs, exportedAnswer, exportedMissing};
+ghost use Rattle.c_session.specs.Numbers.{kindOf, bankOf, setOf, sessionOf};
 
 // The session that three numbers name; a kind above 4 is taken as Restart, which no call names.
 pub fn session_of(kind: u32, bank: u32, set: u32) -> Session
@@ -29,7 +23,7 @@ pub fn session_of(kind: u32, bank: u32, set: u32) -> Session
 }
 
 // The number of a session's kind.
-fn kind_of(session: Session) -> u32
+pub fn kind_of(session: Session) -> u32
     ensures { λ r. ⌜ r ≡ kindOf session ⌝ }
 {
     match session {
@@ -42,7 +36,7 @@ fn kind_of(session: Session) -> u32
 }
 
 // The bank of a Staging session, else 0.
-fn bank_of(session: Session) -> u32
+pub fn bank_of(session: Session) -> u32
     ensures { λ r. ⌜ r ≡ bankOf session ⌝ }
 {
     match session {
@@ -55,7 +49,7 @@ fn bank_of(session: Session) -> u32
 }
 
 // The set of a Staging session, else 0.
-fn set_of(session: Session) -> u32
+pub fn set_of(session: Session) -> u32
     ensures { λ r. ⌜ r ≡ setOf session ⌝ }
 {
     match session {
@@ -64,75 +58,5 @@ fn set_of(session: Session) -> u32
         Session::Trial => 0,
         Session::Fallback => 0,
         Session::Restart => 0,
-    }
-}
-
-// Gives the kind of the next session; for start-up, which has no list and never answers Staging.
-pub fn give_kind(answer: Answer, kind: &mut u32) -> u32
-    ensures { λ r. ⌜ (r, now (kind .exit)) ≡ exportedKind (outcomeOf answer) (now (kind .entry)) ⌝ }
-{
-    let verdict = answer.verdict;
-    match verdict {
-        Verdict::Refused(why) => why.number(),
-        Verdict::Accepted => {
-            let next = answer.session;
-            *kind = kind_of(next);
-            0
-        }
-    }
-}
-
-// Gives the count of pairs; for repair, which has no session.
-pub fn give_pairs(answer: Answer, pairs: &mut usize) -> u32
-    ensures { λ r. ⌜ (r, now (pairs .exit)) ≡ exportedPairs (outcomeOf answer) (now (pairs .entry)) ⌝ }
-{
-    let verdict = answer.verdict;
-    match verdict {
-        Verdict::Refused(why) => why.number(),
-        Verdict::Accepted => {
-            *pairs = answer.stores;
-            0
-        }
-    }
-}
-
-// Gives the next session and the count of pairs.
-pub fn give(answer: Answer, kind: &mut u32, bank: &mut u32, set: &mut u32, pairs: &mut usize) -> u32
-    ensures { λ r. ⌜ (r, (now (kind .exit), now (bank .exit), now (set .exit), now (pairs .exit))) ≡ exportedAnswer (outcomeOf answer) (now (kind .entry), now (bank .entry), now (set .entry), now (pairs .entry)) ⌝ }
-{
-    let verdict = answer.verdict;
-    match verdict {
-        Verdict::Refused(why) => why.number(),
-        Verdict::Accepted => {
-            let next = answer.session;
-            *kind = kind_of(next);
-            *bank = bank_of(next);
-            *set = set_of(next);
-            *pairs = answer.stores;
-            0
-        }
-    }
-}
-
-// How many images a refusal tells to be missing, else what was told before.
-fn missing_or(told: u32, why: Refusal) -> u32
-    ensures { λ r. ⌜ r ≡ missingOr told (valuesOf why) ⌝ }
-{
-    let Refusal::ImagesMissing(count) = why else {
-        return told;
-    };
-    count
-}
-
-// Gives the count of missing images where the answer is 27; for End.
-pub fn give_missing(answer: Answer, missing: &mut u32)
-    ensures { λ _. ⌜ now (missing .exit) ≡ exportedMissing (outcomeOf answer) (now (missing .entry)) ⌝ }
-{
-    let verdict = answer.verdict;
-    match verdict {
-        Verdict::Refused(why) => {
-            *missing = missing_or(*missing, why);
-        }
-        Verdict::Accepted => {}
     }
 }

@@ -3,6 +3,7 @@
 use Prim.Native.Nat.{ℕ, _+_}
 use mathlib.Core.Path.{_≡_}
 use mathlib.Core.List.{List}
+use lib.ListN.{length}
 use denote.Ref.{RefT, ptr, now}
 use Rattle.capsule_rules.specs.Body.{part}
 use Rattle.capsule_rules.specs.Payload.{imageStart, imageEnd, vendorCodeEnd}
@@ -16,6 +17,10 @@ pub record Range : Type 0 where
 
 abbrev pub range : ℕ → ℕ → Range
 range a e = record { start = a; end = e }
+
+-- how many bytes of a capsule s are in it
+abbrev pub lengthIn : (s : List ℕ) → Range → ℕ
+lengthIn s p = length (part s (p .start) (p .end))
 
 -- "the part of the lent capsule itself": the slice r is the part of the slice s of bytes in the range, by its bytes and by
 -- its place in memory. ptr is a reference's pointer: .0 the block of memory, .1 the byte offset in it. So an empty part has a

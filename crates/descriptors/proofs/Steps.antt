@@ -13,8 +13,8 @@ use lib.Seq.{take-suc-set, append-snoc}
 use Rattle.fields.specs.Number.{le}
 use Rattle.fields.proofs.Tests.{both}
 use Rattle.refusals.specs.declared.Refusal.the-variants.{DescriptorCount, DescriptorAddress}
-use Rattle.descriptors.specs.Window.{within}
-use Rattle.descriptors.specs.Reading.{Reading, refused, whole, withDescriptor, lengthOf, addressOf, descriptorFits, jumpOrEnd, dataBlock, walk}
+use Rattle.window.specs.Window.{within, descriptorFits}
+use Rattle.descriptors.specs.Reading.{Reading, refused, whole, withDescriptor, lengthOf, addressOf, jumpOrEnd, dataBlock, walk}
 use Rattle.descriptors.specs.Scratch.{Kept}
 use Rattle.descriptors.specs.declared.Read.{Read}
 use Rattle.descriptors.specs.declared.Read.the-variants.{Refused, Whole}

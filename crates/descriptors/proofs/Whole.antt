@@ -13,8 +13,8 @@ use Rattle.fields.proofs.Tests.{positive}
 use Rattle.refusals.specs.Number.{numberOf}
 use Rattle.refusals.specs.declared.Refusal.{Refusal}
 use Rattle.refusals.specs.declared.Refusal.the-variants.{WindowEnd, DescriptorAddress, BlockOutside, TotalLength}
-use Rattle.descriptors.specs.Window.{pastEnd, within}
-use Rattle.descriptors.specs.Reading.{Reading, refused, whole, withDescriptor, lengthOf, addressOf, descriptorFits, jumpOrEnd, dataBlock, walk, reading, totalLimit}
+use Rattle.window.specs.Window.{pastEnd, within, descriptorFits}
+use Rattle.descriptors.specs.Reading.{Reading, refused, whole, withDescriptor, lengthOf, addressOf, jumpOrEnd, dataBlock, walk, reading, totalLimit}
 use Rattle.descriptors.specs.Law.{Chain, block, jump, end, Faultless}
 use Rattle.descriptors.specs.Scratch.{Kept, Readable, AllReadable, lengths}
 use Rattle.descriptors.specs.declared.Read.{Read}

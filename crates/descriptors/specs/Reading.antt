@@ -1,14 +1,14 @@
 -- What reading the scattered list from a first descriptor gives (document 01, "The window and the scattered list").
 -- w is the window's bytes, B the address of the first of them, and a descriptor is named by its own address, d or a.
 -- Assumes nothing.
-use Prim.Native.Nat.{ℕ, zero, suc, _+_, _%_}
-use mathlib.Core.Bool.{Bool, true, false, cond, _&&_}
+use Prim.Native.Nat.{ℕ, zero, suc, _+_}
+use mathlib.Core.Bool.{Bool, true, false, cond}
 use mathlib.Core.List.{List, [], _∷_}
 use lib.Dec.{leb, eqb}
 use lib.ListN.{length}
 use Rattle.refusals.specs.declared.Refusal.{Refusal}
 use Rattle.refusals.specs.declared.Refusal.the-variants.{WindowEnd, DescriptorCount, DescriptorAddress, BlockOutside, TotalLength}
-use Rattle.descriptors.specs.Window.{pastEnd, within, number64}
+use Rattle.window.specs.Window.{pastEnd, within, descriptorFits, number64}
 
 -- "A descriptor is 16 bytes: Length, then Address, 64 bits each."
 unfoldable pub lengthOf : List ℕ → ℕ → ℕ → ℕ
@@ -16,10 +16,6 @@ lengthOf w B d = number64 w B d
 
 unfoldable pub addressOf : List ℕ → ℕ → ℕ → ℕ
 addressOf w B d = number64 w B (d + 8)
-
--- "A descriptor's address must be a multiple of 8 and all 16 bytes must lie in the window."
-unfoldable pub descriptorFits : ℕ → ℕ → ℕ → Bool
-descriptorFits B N a = eqb (a % 8) 0 && within B N a 16
 
 -- "At most 256 descriptors are read, jumps and the end included."
 abbrev pub descriptorLimit : ℕ

@@ -1,13 +1,14 @@
 // The scattered list of block descriptors (document 01, "The window and the scattered list"): refusals 1 to 5.
-// Addresses can reach 2^64, so the code goes by offsets in the window; the definitions go by addresses.
+// The code goes by offsets in the window, the definitions by addresses (crate window).
 use fields::read64;
 use refusals::Refusal;
+use window::block_fits;
+use window::descriptor_fits;
+use window::window_fits;
 ghost use mathlib.Core.Path.{_≡_};
 ghost use Prim.Native.Nat.{_+_, _-_, _^_, _≤_};
-ghost use mathlib.Core.Bool.{not};
 ghost use lib.ListN.{length};
-ghost use Rattle.descriptors.specs.Window.{pastEnd, within};
-ghost use Rattle.descriptors.specs.Reading.{descriptorFits, jumpOrEnd, walk, reading};
+ghost use Rattle.descriptors.specs.Reading.{jumpOrEnd, walk, reading};
 ghost use Rattle.descriptors.specs.Scratch.{Kept};
 
 // How many descriptors are read at most, jumps and the end included.
@@ -20,48 +21,6 @@ const TOTAL_LIMIT: u64 = 16777216;
 pub enum Read {
     Refused(Refusal),
     Whole { count: usize, total: u64 },
-}
-
-// Whether the window ends at or below 2^64.
-fn window_fits(base: u64, len: usize) -> bool
-    ensures { λ r. ⌜ r ≡ not (pastEnd base len) ⌝ }
-{
-    if len == 0 {
-        return true;
-    }
-    let last = (len - 1) as u64;
-    if 18446744073709551615 - last < base {
-        return false;
-    }
-    true
-}
-
-// Whether a block lies wholly in the window.
-fn block_fits(base: u64, len: usize, address: u64, size: u64) -> bool
-    ensures { λ r. ⌜ r ≡ within base len address size ⌝ }
-{
-    if address < base {
-        return false;
-    }
-    let from = address - base;
-    let n = len as u64;
-    if n < from {
-        return false;
-    }
-    size <= n - from
-}
-
-// Whether a descriptor may stand at the offset `at`: its address, not its offset, is a multiple of 8.
-fn descriptor_fits(base: u64, len: usize, at: usize) -> bool
-    ensures { λ r. ⌜ r ≡ descriptorFits base len (base + at) ⌝ }
-{
-    if len < 16 {
-        return false;
-    }
-    if len - 16 < at {
-        return false;
-    }
-    (base % 8 + (at as u64) % 8) % 8 == 0
 }
 
 // Reads on with the descriptor at the offset `at`: a run of data descriptors, up to a jump or the end.

@@ -9,32 +9,37 @@
 //                            GUID at 239,000: number; kind, bank, set; pairs; missing; altered: how many numbers of out past the list
 //                            are no more what they were
 //     a pairs                does the first so many stores of out in m
+//     o pairs size           pushes how many of the first so many pairs of out have an offset that is no multiple of 4 or lies neither in
+//                            0 to size - 1 nor in 8,192 to 8,191 + size; 1 where out has fewer pairs
 //     s L                    soundness: number, bits (99 with a refusal)
-//     t digest L             pushes the digest with the bench sheet's text
+//     t digest L n           the bench sheet in the first n bytes of 4,352 that all hold 99: pushes the digest with the count answered and
+//                            all 4,352 bytes, or as it was where n is above that
+// A session's kind, bank and set are 32-bit numbers, given as they are; with a refusal they are what the call left there.
 // Where a length is past m or out, nothing is done.
 use c_accept::meanderpeg_accept;
 use c_accept::meanderpeg_select_previous;
+use c_area::meanderpeg_sheet;
+use c_area::meanderpeg_soundness;
 use c_begin::meanderpeg_begin;
 use c_begin::meanderpeg_cancel;
-use c_capsule::meanderpeg_capsule_image_length;
-use c_capsule::meanderpeg_capsule_image_start;
 use c_capsule::meanderpeg_capsule_item_length;
 use c_capsule::meanderpeg_capsule_item_start;
 use c_capsule::meanderpeg_capsule_refusal;
-use c_capsule::meanderpeg_capsule_vendor_code_length;
-use c_capsule::meanderpeg_capsule_vendor_code_start;
 use c_commit::meanderpeg_commit;
 use c_commit::meanderpeg_end;
 use c_gather::meanderpeg_gather;
-use c_record::meanderpeg_repair;
-use c_record::meanderpeg_sheet;
-use c_record::meanderpeg_soundness;
-use c_record::meanderpeg_start_up;
+use c_image::meanderpeg_capsule_image_length;
+use c_image::meanderpeg_capsule_image_start;
+use c_start_up::meanderpeg_repair;
+use c_start_up::meanderpeg_start_up;
 use c_values::meanderpeg_capsule_drivers;
 use c_values::meanderpeg_capsule_hardware_instance;
 use c_values::meanderpeg_capsule_image_index;
 use c_values::meanderpeg_capsule_payloads;
 use c_values::meanderpeg_capsule_type_guid;
+use c_vendor_code::meanderpeg_capsule_vendor_code_length;
+use c_vendor_code::meanderpeg_capsule_vendor_code_start;
+use machine::bytes::digest;
 use machine::bytes::digest_bytes;
 use machine::bytes::load;
 use machine::bytes::store;
@@ -46,6 +51,9 @@ const ANSWERS: usize = 240000;
 const GUID: usize = 239000;
 
 const RESTART: u64 = 4;
+
+// Where copy 1 starts.
+const COPY_1: usize = 8192;
 
 // What stands behind a reference before a call, so that a refusal that alters it is seen; and eight such bytes.
 const BEFORE: u64 = 99;
@@ -292,6 +300,35 @@ fn apply(m: &mut [u8], out: &[u32], pairs: usize) {
     }
 }
 
+// 1 where a store's offset is no multiple of 4 or lies in neither record range.
+fn astray(at: usize, size: usize) -> u64 {
+    if at % 4 != 0 {
+        return 1;
+    }
+    if at < size {
+        return 0;
+    }
+    if at < COPY_1 {
+        return 1;
+    }
+    if at - COPY_1 < size { 0 } else { 1 }
+}
+
+// How many of the first so many offsets of a list are astray.
+fn strays(out: &[u32], pairs: usize, size: usize) -> u64 {
+    if out.len() / 2 < pairs {
+        return 1;
+    }
+    let mut count: u64 = 0;
+    let mut i = 0;
+    while i < pairs {
+        let at = number(out, 2 * i) as usize;
+        count = std::num::wrapping_add_u64(count, astray(at, size));
+        i += 1;
+    }
+    count
+}
+
 fn soundness(w: &mut [u64; 256], m: &mut [u8]) {
     let n = pop(w) as usize;
     if m.len() < n {
@@ -305,20 +342,24 @@ fn soundness(w: &mut [u64; 256], m: &mut [u8]) {
     answer(m, &a);
 }
 
-// The digest with the sheet's text.
-fn with_sheet(area: &[u8], text: &mut [u8], d: u64) -> u64 {
-    let n = meanderpeg_sheet(area, text);
-    digest_bytes(text, 0, n, d)
+// The digest with the sheet in the first k bytes of the text, and with all of it; where it has fewer, the digest as it was.
+fn with_sheet(area: &[u8], text: &mut [u8], k: usize, d: u64) -> u64 {
+    if text.len() < k {
+        return d;
+    }
+    let n = meanderpeg_sheet(area, &mut text[0..k]);
+    digest_bytes(text, 0, text.len(), digest(d, n as u64))
 }
 
 fn sheet(w: &mut [u64; 256], m: &[u8]) {
+    let k = pop(w) as usize;
     let n = pop(w) as usize;
     let d = pop(w);
     if m.len() < n {
         return;
     }
-    let mut text = [0u8; 4096];
-    push(w, with_sheet(&m[0..n], &mut text, d));
+    let mut text = [99u8; 4352];
+    push(w, with_sheet(&m[0..n], &mut text, k, d));
 }
 
 // Start-up, repair and the six calls, with their numbers from the stack.
@@ -344,6 +385,11 @@ fn function(w: &mut [u64; 256], m: &mut [u8], out: &mut [u32], c: u8) {
         b'a' => {
             let pairs = pop(w) as usize;
             apply(m, out, pairs);
+        }
+        b'o' => {
+            let size = pop(w) as usize;
+            let pairs = pop(w) as usize;
+            push(w, strays(out, pairs, size));
         }
         b's' => soundness(w, m),
         b't' => sheet(w, m),

@@ -10,7 +10,7 @@ use lib.Dec.{leb, eqb}
 use lib.ListN.{length, getD, take}
 use lib.Seq.{getD-take, length-take-le}
 use Rattle.fields.proofs.Tests.{both, either, neither, same-test, le-or-lt}
-use Rattle.descriptors.specs.Window.{within}
+use Rattle.window.specs.Window.{within}
 use Rattle.descriptors.specs.Reading.{lengthOf, addressOf}
 use Rattle.place.specs.Place.{apart, clearOf, clearOfAll}
 

@@ -9,7 +9,7 @@ use borrow.Author.Tests.{leb-true, le-leb, lt-leb}
 use lib.Dec.{leb}
 use lib.ListN.{length}
 use Rattle.fields.proofs.Tests.{both, le-or-lt}
-use Rattle.descriptors.specs.Window.{within}
+use Rattle.window.specs.Window.{within}
 use Rattle.place.specs.Place.{clearOfAll, free, lowest}
 use Rattle.place.specs.Search.{NextStart}
 use Rattle.place.specs.declared.Place.{Place}

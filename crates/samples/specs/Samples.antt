@@ -6,8 +6,8 @@ use mathlib.Core.List.{List, [], _∷_}
 use mathlib.Core.Path.{_≡_, refl}
 use lib.Dec.{eqb}
 use Rattle.fields.specs.Number.{le, bytes, put}
-use Rattle.descriptors.specs.Window.{within}
-use Rattle.descriptors.specs.Reading.{lengthOf, addressOf, descriptorFits, withDescriptor, jumpOrEnd, dataBlock, walk, reading}
+use Rattle.window.specs.Window.{within, descriptorFits}
+use Rattle.descriptors.specs.Reading.{lengthOf, addressOf, withDescriptor, jumpOrEnd, dataBlock, walk, reading}
 use Rattle.place.specs.Place.{apart, clearOf, clearOfAll, free, lowest, placeFor}
 use Rattle.gather.specs.Gather.{Answer, refusal, place, block, blocks, copiedTo, finished, gathered}
 use Rattle.crc.specs.Crc.{step, steps, withByte, withBytes, crc32Of}

@@ -12,11 +12,13 @@ use Rattle.record.specs.Layout.{areaSize, copy0, copy1, imageCount}
 use Rattle.record.specs.Rules.{soundCopy}
 use Rattle.copies.specs.Copies.{soundAndEqual}
 use Rattle.stores.specs.Stores.{storeNumbers}
-use Rattle.admission.specs.declared.Gate.{Gate}
-use Rattle.admission.specs.declared.Gate.the-variants.{Open, Shut}
-use Rattle.admission.specs.Gates.{areaGate, equalGate, setFits}
-use Rattle.admission.proofs.Gates.{gate-open, set-below}
-use Rattle.call_lines.specs.Lines.{andThen, stagedGate}
+use Rattle.gates.specs.declared.Gate.{Gate}
+use Rattle.gates.specs.declared.Gate.the-variants.{Open, Shut}
+use Rattle.gates.specs.Gates.{areaGate, equalGate}
+use Rattle.gates.proofs.Gates.{gate-open}
+use Rattle.committed_set.specs.Set.{setFits}
+use Rattle.committed_set.proofs.Fits.{set-below}
+use Rattle.admission.specs.Lines.{andThen, stagedGate}
 use Rattle.session.specs.declared.Session.{Session}
 use Rattle.session.specs.declared.Session.the-variants.{Staging}
 use Rattle.session.specs.Outcome.{Decision, accepted, refused, refusedWith}

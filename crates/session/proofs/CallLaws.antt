@@ -3,9 +3,9 @@ use mathlib.Core.Path.{_≡_}
 use mathlib.Core.List.{List}
 use Prim.Native.Nat.{ℕ}
 use Rattle.record.specs.Layout.{imageCount}
-use Rattle.admission.proofs.Gates.{held-sound, changeable-held}
-use Rattle.admission.proofs.Known.{known}
-use Rattle.admission.proofs.SetLaws.{missing-law, none-absent}
+use Rattle.admission.proofs.Held.{held-sound, changeable-held}
+use Rattle.committed_set.proofs.Known.{known}
+use Rattle.committed_set.proofs.SetLaws.{missing-law, none-absent}
 use Rattle.session.specs.declared.Session.the-variants.{Staging}
 use Rattle.session.specs.Calls.{held, endLine}
 use Rattle.session.specs.Admitted.{Admitted}

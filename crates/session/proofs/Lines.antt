@@ -1,4 +1,4 @@
--- What each call's own line over numbers (crates/call_lines/specs/Lines.antt) means for a session that the call names. Assumes nothing.
+-- What each call's own line over numbers (crates staging_lines and trial_lines) means for a session that the call names. Assumes nothing.
 use mathlib.Core.Path.{_≡_, refl, sym, _∙_}
 use mathlib.Core.Bool.{Bool, true, false, cond, _&&_}
 use mathlib.Core.List.{List, []}
@@ -13,10 +13,13 @@ use Rattle.copies.specs.Copies.{recordsEqual, soundAndEqual}
 use Rattle.stores.proofs.Laid.{withList-none}
 use Rattle.alterations.specs.ChangeStores.{copyStores, changeStores}
 use Rattle.changes.specs.NewRecord.{updateBankOf, imageWith, marked, begunRecord}
-use Rattle.call_lines.specs.declared.Line.the-variants as line
-use Rattle.call_lines.specs.Lines as lines
-use Rattle.call_lines.specs.Lines.{Lined, listed, begun, committed, ended, acceptedOne}
-use Rattle.admission.specs.Set.{missing}
+use Rattle.gates.specs.declared.Line.the-variants as line
+use Rattle.committed_set.specs.Set.{missing}
+use Rattle.admission.specs.Lines as lines
+use Rattle.admission.specs.Lines.{Lined, listed}
+use Rattle.staging_lines.specs.Lines.{begun, committed, ended}
+use Rattle.trial_lines.specs.Lines as trial
+use Rattle.trial_lines.specs.Lines.{acceptedOne}
 use Rattle.session.specs.declared.Session.{Session}
 use Rattle.session.specs.declared.Session.the-variants.{Regular, Staging, Trial}
 use Rattle.session.specs.Outcome.{accepted, acceptedWith}
@@ -60,7 +63,7 @@ next true n = refl
 next false n = refl
 
 in-trial : (g a s : List ℕ) → lineResult Trial (acceptedOne g a s) ≡ acceptLine Trial g a s
-unfolding acceptedOne lines.ofImage lines.afterAccept listed acceptLine ofImage afterAccept changedTo refusedCall
+unfolding acceptedOne lines.ofImage trial.afterAccept listed acceptLine ofImage afterAccept changedTo refusedCall
 in-trial g a s =
     let r = held a in
     let i = imageWith g r in
@@ -70,8 +73,8 @@ pub accept-line : (q : Session) (g a s : List ℕ) → q ≡ Trial → lineResul
 accept-line q g a s t = rw t (in-trial g a s)
 
 -- Select previous
-pub select-line : (q : Session) (a s : List ℕ) → lineResult q (lines.selected a s) ≡ selected q a s
-unfolding lines.selected listed selected changedTo refusedCall
+pub select-line : (q : Session) (a s : List ℕ) → lineResult q (trial.selected a s) ≡ selected q a s
+unfolding trial.selected listed selected changedTo refusedCall
 select-line q a s = by-test q (eqb (state (held a) (previous (held a))) acceptedBank) _ _
 
 -- Cancel: a new record that is the old one takes no stores

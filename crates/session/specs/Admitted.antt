@@ -5,10 +5,10 @@ use mathlib.Core.Bool.{true}
 use mathlib.Core.List.{List}
 use mathlib.Core.Path.{_≡_}
 use Rattle.alterations.specs.Altered.{Changeable}
-use Rattle.admission.specs.declared.Gate.{Gate}
-use Rattle.admission.specs.declared.Gate.the-variants.{Open, Shut}
-use Rattle.call_lines.specs.declared.Line.{Line}
-use Rattle.call_lines.specs.declared.Line.the-variants as line
+use Rattle.gates.specs.declared.Gate.{Gate}
+use Rattle.gates.specs.declared.Gate.the-variants.{Open, Shut}
+use Rattle.gates.specs.declared.Line.{Line}
+use Rattle.gates.specs.declared.Line.the-variants as line
 use Rattle.session.specs.declared.Session.{Session}
 use Rattle.session.specs.declared.Session.the-variants.{Regular, Staging, Trial, Restart}
 use Rattle.session.specs.Outcome.{Decision, accepted, refused, Outcome, refusedWith, acceptedWith}

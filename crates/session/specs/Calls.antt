@@ -1,6 +1,6 @@
 -- What each of the six calls answers and lists (document 01, "Session and calls" and "When the bench says no"). q is the session given, a the
 -- bytes of the area, s the numbers of the store slice, g the bytes of a type GUID. A call's result is its answer and the store slice at exit.
--- The set of committed images, `joined` and `missing`, is in crates/admission/specs/Set.antt. Assumes nothing.
+-- The set of committed images, `joined` and `missing`, is in crates/committed_set/specs/Set.antt. Assumes nothing.
 use Prim.Native.Nat.{ℕ, _^_}
 use mathlib.Core.Bool.{Bool, true, cond, not, _&&_, _||_}
 use mathlib.Core.List.{List}
@@ -14,7 +14,7 @@ use Rattle.copies.specs.Copies.{soundAndEqual}
 use Rattle.stores.specs.Stores.{storeNumbers, withList}
 use Rattle.changes.specs.NewRecord.{updateBankOf, imageWith, marked, begunRecord, committedRecord, endedRecord, acceptedRecord, exchangedRecord}
 use Rattle.alterations.specs.ChangeStores.{changeStores}
-unfoldable pub use Rattle.admission.specs.Set.{joined, missing}
+unfoldable pub use Rattle.committed_set.specs.Set.{joined, missing}
 use Rattle.session.specs.declared.Session.{Session}
 use Rattle.session.specs.declared.Session.the-variants.{Regular, Staging, Trial, Fallback, Restart}
 use Rattle.session.specs.Outcome.{Decision, accepted, refusal, refused, Outcome, refusedWith, acceptedWith}

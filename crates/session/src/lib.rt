@@ -1,16 +1,17 @@
 // The session, the answer of start-up, repair and the calls, and the six calls (document 01, "Session and calls"). Each call tests in the
 // order of "When the bench says no", 20, 23, 21, 22, 24 and then its own line's 25, 26 and 27; a refusal hands the session back as it
-// was, with no list. Which sessions a call names is here; what its own line tests and lists beyond that is in crate call_lines.
-use admission::Gate;
-use admission::admit_area;
-use call_lines::Line;
-use call_lines::accept_line;
-use call_lines::admit_staged;
-use call_lines::begin_line;
-use call_lines::commit_line;
-use call_lines::end_line;
-use call_lines::select_line;
+// was, with no list. Which sessions a call names is here; what its own line tests and lists beyond that is in crates
+// staging_lines and trial_lines.
+use admission::admit_staged;
+use gates::Gate;
+use gates::Line;
+use gates::admit_area;
 use refusals::Refusal;
+use staging_lines::begin_line;
+use staging_lines::commit_line;
+use staging_lines::end_line;
+use trial_lines::accept_line;
+use trial_lines::select_line;
 ghost use mathlib.Core.Path.{_≡_};
 ghost use Rattle.refusals.specs.declared.Refusal.the-variants.{SessionState};
 ghost use Rattle.session.specs.Outcome.{outcomeOf, refusedWith, acceptedWith};

@@ -10,7 +10,7 @@ use Rattle.alterations.specs.Fields.{setAccepted}
 use Rattle.changes.specs.NewRecord.{marked}
 use Rattle.changes.proofs.Setting.{marked-is}
 use Rattle.record.proofs.Sound.{sound-sized, sound-named}
-use Rattle.admission.proofs.Known.{known}
+use Rattle.committed_set.proofs.Known.{known}
 use borrow.Author.Needs.{needs}
 use Rattle.admission.proofs.all_accepted_in.Statement.{statement}
 use Rattle.admission.proofs.all_accepted_in.Tie as tie

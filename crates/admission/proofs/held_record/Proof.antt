@@ -1,6 +1,6 @@
 -- `held_record` meets its contract. Assumes nothing.
 use mathlib.Core.Path.{refl}
-use Rattle.admission.proofs.Gates.{held-sound}
+use Rattle.admission.proofs.Held.{held-sound}
 use borrow.Author.Needs.{needs}
 use Rattle.admission.proofs.held_record.Statement.{statement}
 use Rattle.admission.proofs.held_record.Tie as tie

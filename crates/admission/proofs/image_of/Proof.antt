@@ -1,7 +1,7 @@
 -- `image_of` meets its contract. Assumes nothing.
 use native.Mathlib.Omega.{arith}
 use Rattle.record.proofs.Sound.{sound-sized}
-use Rattle.admission.proofs.Known.{known}
+use Rattle.committed_set.proofs.Known.{known}
 use borrow.Author.Needs.{needs}
 use Rattle.admission.proofs.image_of.Statement.{statement}
 use Rattle.admission.proofs.image_of.Tie as tie

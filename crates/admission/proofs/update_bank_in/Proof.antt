@@ -1,6 +1,6 @@
 -- `update_bank_in` meets its contract. Assumes nothing.
 use native.Mathlib.Omega.{arith}
-use Rattle.admission.proofs.Known.{known}
+use Rattle.committed_set.proofs.Known.{known}
 use borrow.Author.Needs.{needs}
 use Rattle.admission.proofs.update_bank_in.Statement.{statement}
 use Rattle.admission.proofs.update_bank_in.Tie as tie

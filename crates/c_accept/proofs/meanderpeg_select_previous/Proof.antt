@@ -1,5 +1,5 @@
 -- `meanderpeg_select_previous` meets its contract. Assumes nothing.
-use Rattle.c_session.proofs.Answers.{call-given}
+use Rattle.c_answer.proofs.Answers.{call-given}
 use borrow.Author.Needs.{needs}
 use Rattle.c_accept.proofs.meanderpeg_select_previous.Statement.{statement}
 use Rattle.c_accept.proofs.meanderpeg_select_previous.Tie as tie

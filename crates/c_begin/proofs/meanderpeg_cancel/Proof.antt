@@ -1,5 +1,5 @@
 -- `meanderpeg_cancel` meets its contract. Assumes nothing.
-use Rattle.c_session.proofs.Answers.{call-given}
+use Rattle.c_answer.proofs.Answers.{call-given}
 use borrow.Author.Needs.{needs}
 use Rattle.c_begin.proofs.meanderpeg_cancel.Statement.{statement}
 use Rattle.c_begin.proofs.meanderpeg_cancel.Tie as tie

@@ -1,5 +1,5 @@
 -- `meanderpeg_commit` meets its contract. Assumes nothing.
-use Rattle.c_session.proofs.Answers.{call-given}
+use Rattle.c_answer.proofs.Answers.{call-given}
 use borrow.Author.Needs.{needs}
 use Rattle.c_commit.proofs.meanderpeg_commit.Statement.{statement}
 use Rattle.c_commit.proofs.meanderpeg_commit.Tie as tie

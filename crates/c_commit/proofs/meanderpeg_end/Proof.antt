@@ -1,5 +1,5 @@
 -- `meanderpeg_end` meets its contract. Assumes nothing.
-use Rattle.c_session.proofs.Answers.{end-given}
+use Rattle.c_answer.proofs.Answers.{end-given}
 use borrow.Author.Needs.{needs}
 use Rattle.c_commit.proofs.meanderpeg_end.Statement.{statement}
 use Rattle.c_commit.proofs.meanderpeg_end.Tie as tie

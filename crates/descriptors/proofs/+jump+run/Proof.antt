@@ -10,7 +10,8 @@ use lib.ListN.{length, length-set}
 use borrow.Fn.Kinds.{In}
 use borrow.Fn.PlainCycle.{Measures, is, falls, and}
 use Rattle.refusals.specs.declared.Refusal.the-variants.{BlockOutside, TotalLength}
-use Rattle.descriptors.specs.Reading.{refused, walk, jumpOrEnd, dataBlock, descriptorFits, totalLimit}
+use Rattle.window.specs.Window.{descriptorFits}
+use Rattle.descriptors.specs.Reading.{refused, walk, jumpOrEnd, dataBlock, totalLimit}
 use Rattle.descriptors.specs.Scratch.{Kept}
 use Rattle.descriptors.proofs.Steps.{descriptor-ends, bad-address, went-on, ended, none-left, below, jumped-on}
 use Rattle.descriptors.proofs.jump.Reads as jump
@@ -19,8 +20,8 @@ use Rattle.descriptors.proofs.+jump+run.Lts-jump as jump-lts
 use Rattle.descriptors.proofs.run.Reads as run
 use Rattle.descriptors.proofs.run.Kinds as run-kinds
 use Rattle.descriptors.proofs.+jump+run.Lts-run as run-lts
-use Rattle.descriptors.proofs.block_fits.Reads as block-fits-reads
-use Rattle.descriptors.proofs.descriptor_fits.Reads as descriptor-fits-reads
+use Rattle.window.proofs.block_fits.Reads as block-fits-reads
+use Rattle.window.proofs.descriptor_fits.Reads as descriptor-fits-reads
 use Rattle.fields.proofs.read64.Reads as read64-reads
 use Rattle.descriptors.proofs.+jump+run.{statement}
 use Rattle.descriptors.proofs.+jump+run.Tie.{close}

@@ -6,7 +6,7 @@ use Prim.Native.Nat.{_+_, _-_, _^_, _≤_}
 use native.Mathlib.Omega.{arith}
 use borrow.Author.Tests.{ltb-false, not-true, not-false}
 use lib.ListN.{length}
-use Rattle.descriptors.specs.Window.{pastEnd}
+use Rattle.window.specs.Window.{pastEnd}
 use Rattle.descriptors.specs.Reading.{reading}
 use Rattle.descriptors.specs.Scratch.{Kept}
 use Rattle.descriptors.proofs.Steps.{below}

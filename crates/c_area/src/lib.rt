@@ -1,0 +1,43 @@
+// The way in from C and Rust (include/meanderpeg.h): what an area holds. A slice passes as a pointer and a length, a number behind a
+// reference as a pointer. A refusal leaves what was lent as it was.
+use copies::AREA;
+use copies::COPY;
+ghost use mathlib.Core.Path.{_≡_};
+ghost use lib.ListN.{length};
+ghost use Rattle.sheet.specs.Sheet.{sheetIn};
+ghost use Rattle.c_area.specs.Soundness.{soundCopies, exportedSoundness};
+
+// Which copies are sound, and whether they are equal, as bits.
+fn sound_copies(area: &[u8]) -> u32
+    requires { ⌜ length (now area) ≡ 16384 ⌝ }
+    ensures { λ r. ⌜ r ≡ soundCopies (now (area .entry)) ⌝ }
+{
+    let second = soundness::sound_copy(&area[COPY..AREA]);
+    if !soundness::sound_copy(&area[0..COPY]) {
+        return if second { 2 } else { 0 };
+    }
+    if !second {
+        return 1;
+    }
+    if copies::records_equal(area) { 7 } else { 3 }
+}
+
+// Sets the bits of `sound_copies`. Refusal 20.
+#[no_mangle]
+pub extern "C" fn meanderpeg_soundness(area: &[u8], found: &mut u32) -> u32
+    ensures { λ r. ⌜ (r, now (found .exit)) ≡ exportedSoundness (now (area .entry)) (now (found .entry)) ⌝ }
+{
+    if area.len() != AREA {
+        return 20;
+    }
+    *found = sound_copies(area);
+    0
+}
+
+// The bench sheet's text at the front of `text`, as `sheet::sheet` writes it, and how many bytes it has.
+#[no_mangle]
+pub extern "C" fn meanderpeg_sheet(area: &[u8], text: &mut [u8]) -> usize
+    ensures { λ n. ⌜ (n, now (text .exit)) ≡ sheetIn (now (area .entry)) (now (text .entry)) ⌝ }
+{
+    sheet::sheet(area, text)
+}

@@ -1,2 +1,0 @@
--- Each call's own line, over numbers. Assumes nothing.
-pub mod Lines

@@ -1,0 +1,69 @@
+-- `staged` meets its contract. Assumes nothing.
+use borrow.Author.Tests.{eq-eqb, ne-eqb}
+use mathlib.Core.Path.{_∙_}
+use native.Mathlib.Omega.{arith}
+use Rattle.committed_set.specs.Set.{setFits}
+use Rattle.committed_set.proofs.Known.{known}
+use Rattle.committed_set.proofs.Fits.{set-decides}
+use borrow.Author.Needs.{needs}
+use Rattle.committed_set.proofs.staged.Statement.{statement}
+use Rattle.committed_set.proofs.staged.Tie as tie
+
+update-bank-requires : tie.Need-update-bank-requires
+update-bank-requires c κs = search needs
+
+returns : tie.Need-returns
+unfolding setFits
+returns c = rw (← c .before .update-bank .ensures .0, ne-eqb _ _ (c .if1 .taken))
+
+add-at : tie.Need-add-at
+add-at c = search needs
+
+shared-slice-read-if2 : tie.Need-shared-slice-read-if2
+shared-slice-read-if2 c =
+    let e = c .before in
+    let s = c .before .before .before .before in
+    let k = known (s .args .r .now) (s .pre) in
+    omega (arith, k .header, k .update-low, k .banks-high, e .before .update-bank .ensures .0, e .if1 .left)
+
+returns-2 : tie.Need-returns-2
+unfolding setFits
+returns-2 c =
+    let e = c .before .before in
+    rw (← e .before .update-bank .ensures .0, eq-eqb _ _ (e .if1 .left), ne-eqb _ _ (c .if2 .taken))
+
+read16-requires : tie.Need-read16-requires
+read16-requires c κs = let s = c .before .before .before .before .before in omega (arith, known (s .args .r .now) (s .pre) .header)
+
+cast-images : tie.Need-cast-images
+cast-images c = search needs
+
+cast-result : tie.Need-cast-result
+cast-result c = search needs
+
+shl-result : tie.Need-shl-result
+shl-result c = let s = c .before .before .before .before .before .before in omega (arith, c .read16 .ensures, known (s .args .r .now) (s .pre) .images-high)
+
+returns-3 : tie.Need-returns-3
+returns-3 c =
+    let f = c .before in
+    let e = c .before .before .before in
+    let s = c .before .before .before .before .before .before in
+    let r = s .args .r .now in
+    set-decides (s .args .bank) (s .args .set) (c .read16 .result) r (e .if1 .left ∙ e .before .update-bank .ensures .0) (f .if2 .left) (c .read16 .ensures)
+    (omega (arith, c .read16 .ensures, known r (s .pre) .images-high))
+
+pub staged-spec : {M : Type 1} → statement M
+staged-spec =
+    tie.close
+    (tie.spec
+    update-bank-requires
+    returns
+    add-at
+    shared-slice-read-if2
+    returns-2
+    read16-requires
+    cast-images
+    cast-result
+    shl-result
+    returns-3)

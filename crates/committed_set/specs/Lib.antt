@@ -1,0 +1,3 @@
+-- The set of committed images. Assumes nothing.
+pub mod Set
+pub mod SetLaws

@@ -1,0 +1,35 @@
+// The set of committed images (document 01, "Session and calls"): whether a Staging session's bank and set fit a record (24), and how
+// many images the set lacks (27).
+use changes::update_bank;
+use fields::read16;
+ghost use mathlib.Core.Path.{_≡_};
+ghost use mathlib.Core.Bool.{true};
+ghost use Prim.Native.Nat.{_<_, _^_};
+ghost use Rattle.record.specs.Layout.{imageCount};
+ghost use Rattle.record.specs.Rules.{sound};
+ghost use Rattle.committed_set.specs.Set.{missing, setFits};
+
+// 24, of a Staging session. The bank is looked up only where it is the update bank: a session may name any number.
+pub fn staged(r: &[u8], bank: u32, set: u32) -> bool
+    requires { ⌜ sound (now r) ≡ true ⌝ }
+    ensures { λ b. ⌜ b ≡ setFits bank set (now (r .entry)) ⌝ }
+{
+    if bank as usize != update_bank(r) {
+        return false;
+    }
+    let at = 24 + bank as usize;
+    if r[at] != 255 {
+        return false;
+    }
+    let images = read16(r, 34) as u32;
+    (set as u64) < (1u64 << images)
+}
+
+// How many images are not in the set: "image count minus the committed set's count of ones".
+pub fn missing_images(r: &[u8], set: u32) -> u32
+    requires { ⌜ (sound (now r) ≡ true) × (set < 2 ^ imageCount (now r)) ⌝ }
+    ensures { λ n. ⌜ n ≡ missing set (now (r .entry)) ⌝ }
+{
+    let images = read16(r, 34) as u32;
+    images - u32::count_ones(set)
+}

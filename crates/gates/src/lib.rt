@@ -1,0 +1,58 @@
+// What a call tests before it looks at its session (document 01, "When the bench says no"): 20, 23, 21 and 22. And what a test or a
+// call's own line leads to, with no session.
+use copies::AREA;
+use copies::Source;
+use copies::read_source;
+use copies::second_agrees;
+use refusals::Refusal;
+use stores::STORE_NUMBERS;
+ghost use mathlib.Core.Path.{_≡_};
+ghost use lib.ListN.{length};
+ghost use Rattle.copies.specs.Copies.{sourceOf};
+ghost use Rattle.copies.specs.declared.Source.the-variants.{Copy0};
+ghost use Rattle.gates.specs.Gates.{areaGate, equalGate};
+
+// Whether area and store slice let a call go on to its session, and if not, why.
+pub enum Gate {
+    Open,
+    Shut(Refusal),
+}
+
+// What a call's own line gives: a refusal; or the session that it leads to, and how many pairs stand in the store list. No call leads to
+// Fallback.
+pub enum Line {
+    Refused(Refusal),
+    Regular(usize),
+    Staging { bank: u32, set: u32, stores: usize },
+    Trial(usize),
+    Restart(usize),
+}
+
+// 22, where copy 0 is sound.
+fn admit_equal(area: &[u8]) -> Gate
+    requires { ⌜ (length (now area) ≡ 16384) × (sourceOf (now area) ≡ Copy0) ⌝ }
+    ensures { λ g. ⌜ g ≡ equalGate (now (area .entry)) ⌝ }
+{
+    if !second_agrees(area) {
+        return Gate::Shut(Refusal::CopiesDiffer);
+    }
+    Gate::Open
+}
+
+// 20, 23, 21 and 22, in that order: what is tested before a session is looked at.
+pub fn admit_area(area: &[u8], numbers: usize) -> Gate
+    ensures { λ g. ⌜ g ≡ areaGate (now (area .entry)) numbers ⌝ }
+{
+    if area.len() != AREA {
+        return Gate::Shut(Refusal::AreaLength);
+    }
+    if numbers < STORE_NUMBERS {
+        return Gate::Shut(Refusal::StoreSlice);
+    }
+    let from = read_source(area);
+    match from {
+        Source::Copy0 => admit_equal(area),
+        Source::Copy1 => Gate::Shut(Refusal::CopiesDiffer),
+        Source::Neither => Gate::Shut(Refusal::NoSoundCopy),
+    }
+}

@@ -1,0 +1,2 @@
+-- Laws of the lines, for the proofs here.
+pub mod Lines

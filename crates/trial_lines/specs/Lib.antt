@@ -1,0 +1,2 @@
+-- The own lines of Accept and Select previous, over numbers. Assumes nothing.
+pub mod Lines

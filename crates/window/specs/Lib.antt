@@ -1,0 +1,2 @@
+-- The memory window. Assumes nothing.
+pub mod Window
