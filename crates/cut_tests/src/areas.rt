@@ -1,11 +1,11 @@
 // The bytes that a simulation keeps of an area, and what it reads there.
 use copies::Source;
-use record_cases::areas::byte;
-use record_cases::areas::copies_equal;
-use record_cases::areas::word;
 use session::Answer;
 use session::Session;
 use session::Verdict;
+use test_areas::byte;
+use test_areas::copies_equal;
+use test_areas::word;
 ghost use Prim.Native.Nat.{_≤_};
 
 // Puts the byte at f of `from` to t of `to`, where both are.

@@ -10,7 +10,6 @@ use areas::restore;
 use areas::seen;
 use areas::settled;
 use areas::starts_right;
-use record_cases::areas::apply;
 use record_cases::cases;
 use record_cases::cases::Case;
 use record_cases::script;
@@ -18,6 +17,7 @@ use record_cases::script::Line;
 use record_cases::shown;
 use session::Answer;
 use tally::Tally;
+use test_areas::apply;
 
 // A read after a repair's cut: the same record as before, and if the repair has finished both copies sound and equal.
 fn read_again(a: &[u8], pair: &[u8], before: u32, finished: bool, t: Tally) -> Tally {

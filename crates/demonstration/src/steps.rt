@@ -1,6 +1,5 @@
 // One step of an update: the call, its stores done, and the line that is printed of it.
 use crate::parts::named;
-use record_cases::areas::apply;
 use record_cases::shown::show_name;
 use record_cases::shown::show_refusal;
 use record_cases::shown::show_start;
@@ -8,6 +7,7 @@ use record_cases::shown::text;
 use session::Answer;
 use session::Session;
 use session::Verdict;
+use test_areas::apply;
 
 // The first n bytes.
 fn show_front(t: &[u8], n: usize) {

@@ -16,147 +16,33 @@
 //                            all 4,352 bytes, or as it was where n is above that
 // A session's kind, bank and set are 32-bit numbers, given as they are; with a refusal they are what the call left there.
 // Where a length is past m or out, nothing is done.
+use area_machine::altered;
+use area_machine::apply;
+use area_machine::fill;
+use area_machine::sheet;
+use area_machine::soundness;
+use area_machine::strays;
 use c_accept::meanderpeg_accept;
 use c_accept::meanderpeg_select_previous;
-use c_area::meanderpeg_sheet;
-use c_area::meanderpeg_soundness;
 use c_begin::meanderpeg_begin;
 use c_begin::meanderpeg_cancel;
-use c_capsule::meanderpeg_capsule_item_length;
-use c_capsule::meanderpeg_capsule_item_start;
-use c_capsule::meanderpeg_capsule_refusal;
 use c_commit::meanderpeg_commit;
 use c_commit::meanderpeg_end;
-use c_gather::meanderpeg_gather;
-use c_image::meanderpeg_capsule_image_length;
-use c_image::meanderpeg_capsule_image_start;
 use c_start_up::meanderpeg_repair;
 use c_start_up::meanderpeg_start_up;
-use c_values::meanderpeg_capsule_drivers;
-use c_values::meanderpeg_capsule_hardware_instance;
-use c_values::meanderpeg_capsule_image_index;
-use c_values::meanderpeg_capsule_payloads;
-use c_values::meanderpeg_capsule_type_guid;
-use c_vendor_code::meanderpeg_capsule_vendor_code_length;
-use c_vendor_code::meanderpeg_capsule_vendor_code_start;
-use machine::bytes::digest;
-use machine::bytes::digest_bytes;
+use capsule_machine::ANSWERS;
+use capsule_machine::BEFORE;
+use capsule_machine::answer;
+use capsule_machine::behind;
+use capsule_machine::capsule;
+use capsule_machine::gather;
 use machine::bytes::load;
-use machine::bytes::store;
 use machine::pop;
 use machine::push;
-
-const ANSWERS: usize = 240000;
 
 const GUID: usize = 239000;
 
 const RESTART: u64 = 4;
-
-// Where copy 1 starts.
-const COPY_1: usize = 8192;
-
-// What stands behind a reference before a call, so that a refusal that alters it is seen; and eight such bytes.
-const BEFORE: u64 = 99;
-
-const BYTES_BEFORE: u64 = 0x6363_6363_6363_6363;
-
-// What stands behind a reference, as an answer: with a refusal how it differs from what stood there, so 0 where it is as it was.
-fn behind(number: u32, v: u64, before: u64) -> u64 {
-    if number == 0 {
-        return v;
-    }
-    v ^ before
-}
-
-// Puts the answers of an entry into the memory.
-fn answer(m: &mut [u8], a: &[u64; 13]) {
-    let mut i = 0;
-    while i < 13 {
-        store(m, ANSWERS + 8 * i, 8, a[i]);
-        i += 1;
-    }
-}
-
-fn gather(w: &mut [u64; 256], m: &mut [u8]) {
-    let first = pop(w);
-    let base = pop(w);
-    let n = pop(w) as usize;
-    if m.len() < n {
-        return;
-    }
-    let mut address = BEFORE;
-    let mut total = BEFORE;
-    let number = meanderpeg_gather(&mut m[0..n], base, first, &mut address, &mut total);
-    let mut a = [0u64; 13];
-    a[0] = number as u64;
-    a[1] = behind(number, address, BEFORE);
-    a[2] = behind(number, total, BEFORE);
-    answer(m, &a);
-}
-
-// Eight bytes of a GUID.
-fn half(guid: &[u8; 16], at: usize) -> u64 {
-    load(guid, at, 8)
-}
-
-// What is told of item k of the capsule s.
-fn told(s: &[u8], k: usize) -> [u64; 13] {
-    let mut a = [0u64; 13];
-    let mut guid = [99u8; 16];
-    let number = meanderpeg_capsule_type_guid(s, k, &mut guid);
-    a[0] = if number == meanderpeg_capsule_refusal(s, k) {
-        number as u64
-    } else {
-        1000
-    };
-    a[1] = meanderpeg_capsule_item_start(s, k) as u64;
-    a[2] = meanderpeg_capsule_item_length(s, k) as u64;
-    a[3] = meanderpeg_capsule_image_start(s, k) as u64;
-    a[4] = meanderpeg_capsule_image_length(s, k) as u64;
-    a[5] = meanderpeg_capsule_vendor_code_start(s, k) as u64;
-    a[6] = meanderpeg_capsule_vendor_code_length(s, k) as u64;
-    a[7] = behind(number, half(&guid, 0), BYTES_BEFORE);
-    a[8] = behind(number, half(&guid, 8), BYTES_BEFORE);
-    a[9] = meanderpeg_capsule_image_index(s, k) as u64;
-    a[10] = meanderpeg_capsule_hardware_instance(s, k);
-    a[11] = meanderpeg_capsule_drivers(s) as u64;
-    a[12] = meanderpeg_capsule_payloads(s) as u64;
-    a
-}
-
-fn capsule(w: &mut [u64; 256], m: &mut [u8]) {
-    let k = pop(w) as usize;
-    let n = pop(w) as usize;
-    if m.len() < n {
-        return;
-    }
-    let a = told(&m[0..n], k);
-    answer(m, &a);
-}
-
-fn fill(out: &mut [u32]) {
-    let n = out.len();
-    let mut i = 0;
-    while i < n {
-        out[i] = 7;
-        i += 1;
-    }
-}
-
-fn differs(n: u32) -> u64 {
-    if n == 7 { 0 } else { 1 }
-}
-
-// How many numbers past the pairs are no 7.
-fn altered(out: &[u32], pairs: usize) -> u64 {
-    let mut count: u64 = 0;
-    let mut i = pairs % 4294967296 * 2;
-    while i < out.len() {
-        count = std::num::wrapping_add_u64(count, differs(out[i]));
-        i += 1;
-    }
-    count
-}
 
 fn low(n: u64) -> u32 {
     (n % 4294967296) as u32
@@ -277,89 +163,6 @@ fn called(m: &mut [u8], out: &mut [u32], which: u64, n: usize, k: usize, request
     let pairs = a[4] as usize;
     a[6] = altered(out, pairs);
     answer(m, &a);
-}
-
-fn number(out: &[u32], i: usize) -> u32 {
-    if i < out.len() { out[i] } else { 0 }
-}
-
-// Does the first so many stores of a list.
-fn apply(m: &mut [u8], out: &[u32], pairs: usize) {
-    if out.len() / 2 < pairs {
-        return;
-    }
-    let mut i = 0;
-    while i < pairs {
-        store(
-            m,
-            number(out, 2 * i) as usize,
-            4,
-            number(out, 2 * i + 1) as u64,
-        );
-        i += 1;
-    }
-}
-
-// 1 where a store's offset is no multiple of 4 or lies in neither record range.
-fn astray(at: usize, size: usize) -> u64 {
-    if at % 4 != 0 {
-        return 1;
-    }
-    if at < size {
-        return 0;
-    }
-    if at < COPY_1 {
-        return 1;
-    }
-    if at - COPY_1 < size { 0 } else { 1 }
-}
-
-// How many of the first so many offsets of a list are astray.
-fn strays(out: &[u32], pairs: usize, size: usize) -> u64 {
-    if out.len() / 2 < pairs {
-        return 1;
-    }
-    let mut count: u64 = 0;
-    let mut i = 0;
-    while i < pairs {
-        let at = number(out, 2 * i) as usize;
-        count = std::num::wrapping_add_u64(count, astray(at, size));
-        i += 1;
-    }
-    count
-}
-
-fn soundness(w: &mut [u64; 256], m: &mut [u8]) {
-    let n = pop(w) as usize;
-    if m.len() < n {
-        return;
-    }
-    let mut bits: u32 = 99;
-    let number = meanderpeg_soundness(&m[0..n], &mut bits);
-    let mut a = [0u64; 13];
-    a[0] = number as u64;
-    a[1] = bits as u64;
-    answer(m, &a);
-}
-
-// The digest with the sheet in the first k bytes of the text, and with all of it; where it has fewer, the digest as it was.
-fn with_sheet(area: &[u8], text: &mut [u8], k: usize, d: u64) -> u64 {
-    if text.len() < k {
-        return d;
-    }
-    let n = meanderpeg_sheet(area, &mut text[0..k]);
-    digest_bytes(text, 0, text.len(), digest(d, n as u64))
-}
-
-fn sheet(w: &mut [u64; 256], m: &[u8]) {
-    let k = pop(w) as usize;
-    let n = pop(w) as usize;
-    let d = pop(w);
-    if m.len() < n {
-        return;
-    }
-    let mut text = [99u8; 4352];
-    push(w, with_sheet(&m[0..n], &mut text, k, d));
 }
 
 // Start-up, repair and the six calls, with their numbers from the stack.

@@ -1,6 +1,5 @@
 // A case: the session, the lengths that a call is given, and whether its answer alone is printed. Steps of a script change the case and its
 // area; calls are told by their letters.
-use crate::areas;
 use crate::script;
 use crate::script::Line;
 use crate::shown;
@@ -95,22 +94,22 @@ fn place(line: Line, banks: u32) -> u32
         b'a' => 8,
         b'p' => 12,
         b'k' => 24 + line.y % 4,
-        _ => areas::accepted_at(banks, line.x, line.y % 4),
+        _ => test_areas::accepted_at(banks, line.x, line.y % 4),
     }
 }
 
 fn set_both(line: Line, a: &mut [u8]) {
-    let at = place(line, areas::byte(a, 32));
-    areas::set_both(a, at, line.z);
+    let at = place(line, test_areas::byte(a, 32));
+    test_areas::set_both(a, at, line.z);
 }
 
 // A copy anew, or with R both.
 fn renewed(line: Line, a: &mut [u8]) {
     let banks = line.y % 8;
     let images = line.z % 64;
-    areas::build(a, 8192 * (line.x % 2), banks, images);
+    test_areas::build(a, 8192 * (line.x % 2), banks, images);
     if line.letter == b'R' {
-        areas::build(a, 8192, banks, images);
+        test_areas::build(a, 8192, banks, images);
     }
 }
 
@@ -120,7 +119,7 @@ fn changed(line: Line, a: &mut [u8]) {
     match letter {
         b'R' | b'r' => renewed(line, a),
         b'a' | b'p' | b'k' | b'i' => set_both(line, a),
-        b's' => areas::seal_both(a),
+        b's' => test_areas::seal_both(a),
         _ => altered(letter, line.y, line.z, a),
     }
 }
@@ -128,8 +127,8 @@ fn changed(line: Line, a: &mut [u8]) {
 // What it does to one place; or a line's end.
 fn altered(letter: u8, at: u32, v: u32, a: &mut [u8]) {
     match letter {
-        b'd' => areas::put8(a, at, v),
-        b'w' => areas::put32(a, at, v),
+        b'd' => test_areas::put8(a, at, v),
+        b'w' => test_areas::put32(a, at, v),
         b'n' => shown::text(b"\n"),
         _ => {}
     }
@@ -201,8 +200,8 @@ fn show_after(a: &[u8], n: usize) {
     if a.len() < n {
         return;
     }
-    show_started(start_up::start_up(&a[0..n], areas::word(a, 8)));
-    if areas::copies_equal(a) {
+    show_started(start_up::start_up(&a[0..n], test_areas::word(a, 8)));
+    if test_areas::copies_equal(a) {
         shown::text(b"\tequal");
     } else {
         shown::text(b"\tunequal");
@@ -315,7 +314,7 @@ fn called(case: Case, line: Line, a: &mut [u8], out: &mut [u32]) -> Case {
     let session = case.session;
     let letter = line.letter;
     let r = seen_answer(case, line, a, out);
-    areas::apply(a, out, r.stores);
+    test_areas::apply(a, out, r.stores);
     show_call(r, letter, case.brief, a, case.area);
     with_session(case, next_session(session, letter, r))
 }

@@ -1,7 +1,4 @@
 // What is printed of a call.
-use crate::areas::accepted_at;
-use crate::areas::byte;
-use crate::areas::word;
 use crate::script::Line;
 use crate::script::empty;
 use crate::script::is_end;
@@ -10,6 +7,9 @@ use refusals::Refusal;
 use session::Answer;
 use session::Session;
 use session::Verdict;
+use test_areas::accepted_at;
+use test_areas::byte;
+use test_areas::word;
 ghost use Prim.Native.Nat.{_≤_};
 
 pub fn text(t: &[u8]) {

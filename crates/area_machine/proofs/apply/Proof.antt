@@ -3,8 +3,8 @@ use mathlib.Core.Path.{_≡_}
 use Prim.Native.Nat.{_≤_, _-_}
 use lib.ListN.{length}
 use borrow.Author.Needs.{needs}
-use Rattle.entry_machine.proofs.apply.Statement.{statement}
-use Rattle.entry_machine.proofs.apply.Tie as tie
+use Rattle.area_machine.proofs.apply.Statement.{statement}
+use Rattle.area_machine.proofs.apply.Tie as tie
 
 abbrev Inv-loop : tie.InvT-loop
 Inv-loop m₀ out pairs i₀ m i = (i ≤ pairs) × (length m ≡ length m₀)

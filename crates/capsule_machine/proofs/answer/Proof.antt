@@ -3,17 +3,29 @@ use mathlib.Core.Path.{_≡_}
 use Prim.Native.Nat.{_≤_, _-_}
 use lib.ListN.{length}
 use borrow.Author.Needs.{needs}
-use Rattle.record_cases.proofs.areas.apply.Statement.{statement}
-use Rattle.record_cases.proofs.areas.apply.Tie as tie
+use Rattle.capsule_machine.proofs.answer.Statement.{statement}
+use Rattle.capsule_machine.proofs.answer.Tie as tie
 
 abbrev Inv-loop : tie.InvT-loop
-Inv-loop a₀ out n i₀ a i = (i ≤ n) × (length a ≡ length a₀)
+Inv-loop m₀ a i₀ m i = (i ≤ 13) × (length m ≡ length m₀)
 
 abbrev μ-loop : tie.MeasureT-loop
-μ-loop a₀ out n i₀ a i = n - i
+μ-loop m₀ a i₀ m i = 13 - i
 
 loop-holds : tie.Need-loop-holds Inv-loop μ-loop
 loop-holds c = search needs
+
+mul-store : tie.Need-mul-store Inv-loop μ-loop
+mul-store c = search needs
+
+add-store : tie.Need-add-store Inv-loop μ-loop
+add-store c = search needs
+
+mul-store-2 : tie.Need-mul-store-2 Inv-loop μ-loop
+mul-store-2 c = search needs
+
+element-copy-out-store : tie.Need-element-copy-out-store Inv-loop μ-loop
+element-copy-out-store c = search needs
 
 store-requires : tie.Need-store-requires Inv-loop μ-loop
 store-requires c κs = search needs
@@ -33,13 +45,17 @@ same-length c = search needs
 returns : tie.Need-returns Inv-loop μ-loop
 returns c = search needs
 
-pub apply-spec : {M : Type 1} → statement M
-apply-spec =
+pub answer-spec : {M : Type 1} → statement M
+answer-spec =
     tie.close
     (tie.spec
     Inv-loop
     μ-loop
     loop-holds
+    mul-store
+    add-store
+    mul-store-2
+    element-copy-out-store
     store-requires
     add-i
     loop-less

@@ -3,8 +3,8 @@ use mathlib.Core.Path.{_≡_}
 use Prim.Native.Nat.{_≤_, _-_}
 use lib.ListN.{length}
 use borrow.Author.Needs.{needs}
-use Rattle.record_cases.proofs.areas.build.Statement.{statement}
-use Rattle.record_cases.proofs.areas.build.Tie as tie
+use Rattle.test_areas.proofs.build.Statement.{statement}
+use Rattle.test_areas.proofs.build.Tie as tie
 
 abbrev Inv-loop : tie.InvT-loop
 Inv-loop a₀ base banks images k₀ a k = (k ≤ 2048) × (length a ≡ length a₀)

@@ -1,8 +1,8 @@
 -- Safety alone: the loop counts up to its end. Assumes nothing.
 use Prim.Native.Nat.{_≤_, _-_}
 use borrow.Author.Needs.{needs}
-use Rattle.record_cases.proofs.areas.copies_equal.Statement.{statement}
-use Rattle.record_cases.proofs.areas.copies_equal.Tie as tie
+use Rattle.test_areas.proofs.copies_equal.Statement.{statement}
+use Rattle.test_areas.proofs.copies_equal.Tie as tie
 
 abbrev Inv-loop : tie.InvT-loop
 Inv-loop a n i₀ i = (i ≤ n) × (n ≤ 8192)

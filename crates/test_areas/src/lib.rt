@@ -1,4 +1,4 @@
-// Areas for the cases. A copy is written word by word, and the checksum is worked anew after each change. Places are 32-bit offsets, as those
+// Areas for the test programs of start-up, repair and the calls. A copy is written word by word, and the checksum is worked anew after each change. Places are 32-bit offsets, as those
 // of stores are.
 ghost use Prim.Native.Nat.{_≤_};
 

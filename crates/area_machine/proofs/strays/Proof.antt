@@ -1,8 +1,8 @@
 -- Safety alone: the loop counts up to its end. Assumes nothing.
 use Prim.Native.Nat.{_≤_, _-_}
 use borrow.Author.Needs.{needs}
-use Rattle.entry_machine.proofs.strays.Statement.{statement}
-use Rattle.entry_machine.proofs.strays.Tie as tie
+use Rattle.area_machine.proofs.strays.Statement.{statement}
+use Rattle.area_machine.proofs.strays.Tie as tie
 
 abbrev Inv-loop : tie.InvT-loop
 Inv-loop out pairs size count₀ i₀ count i = i ≤ pairs

@@ -1,0 +1,120 @@
+// The functions a, o, s and t of crate entry_machine, over lists of stores and over areas.
+use c_area::meanderpeg_sheet;
+use c_area::meanderpeg_soundness;
+use capsule_machine::answer;
+use machine::bytes::digest;
+use machine::bytes::digest_bytes;
+use machine::bytes::load;
+use machine::bytes::store;
+use machine::pop;
+use machine::push;
+
+// Where copy 1 starts.
+const COPY_1: usize = 8192;
+
+pub fn fill(out: &mut [u32]) {
+    let n = out.len();
+    let mut i = 0;
+    while i < n {
+        out[i] = 7;
+        i += 1;
+    }
+}
+
+fn differs(n: u32) -> u64 {
+    if n == 7 { 0 } else { 1 }
+}
+
+// How many numbers past the pairs are no 7.
+pub fn altered(out: &[u32], pairs: usize) -> u64 {
+    let mut count: u64 = 0;
+    let mut i = pairs % 4294967296 * 2;
+    while i < out.len() {
+        count = std::num::wrapping_add_u64(count, differs(out[i]));
+        i += 1;
+    }
+    count
+}
+
+fn number(out: &[u32], i: usize) -> u32 {
+    if i < out.len() { out[i] } else { 0 }
+}
+
+// Does the first so many stores of a list.
+pub fn apply(m: &mut [u8], out: &[u32], pairs: usize) {
+    if out.len() / 2 < pairs {
+        return;
+    }
+    let mut i = 0;
+    while i < pairs {
+        store(
+            m,
+            number(out, 2 * i) as usize,
+            4,
+            number(out, 2 * i + 1) as u64,
+        );
+        i += 1;
+    }
+}
+
+// 1 where a store's offset is no multiple of 4 or lies in neither record range.
+fn astray(at: usize, size: usize) -> u64 {
+    if at % 4 != 0 {
+        return 1;
+    }
+    if at < size {
+        return 0;
+    }
+    if at < COPY_1 {
+        return 1;
+    }
+    if at - COPY_1 < size { 0 } else { 1 }
+}
+
+// How many of the first so many offsets of a list are astray.
+pub fn strays(out: &[u32], pairs: usize, size: usize) -> u64 {
+    if out.len() / 2 < pairs {
+        return 1;
+    }
+    let mut count: u64 = 0;
+    let mut i = 0;
+    while i < pairs {
+        let at = number(out, 2 * i) as usize;
+        count = std::num::wrapping_add_u64(count, astray(at, size));
+        i += 1;
+    }
+    count
+}
+
+pub fn soundness(w: &mut [u64; 256], m: &mut [u8]) {
+    let n = pop(w) as usize;
+    if m.len() < n {
+        return;
+    }
+    let mut bits: u32 = 99;
+    let number = meanderpeg_soundness(&m[0..n], &mut bits);
+    let mut a = [0u64; 13];
+    a[0] = number as u64;
+    a[1] = bits as u64;
+    answer(m, &a);
+}
+
+// The digest with the sheet in the first k bytes of the text, and with all of it; where it has fewer, the digest as it was.
+fn with_sheet(area: &[u8], text: &mut [u8], k: usize, d: u64) -> u64 {
+    if text.len() < k {
+        return d;
+    }
+    let n = meanderpeg_sheet(area, &mut text[0..k]);
+    digest_bytes(text, 0, text.len(), digest(d, n as u64))
+}
+
+pub fn sheet(w: &mut [u64; 256], m: &[u8]) {
+    let k = pop(w) as usize;
+    let n = pop(w) as usize;
+    let d = pop(w);
+    if m.len() < n {
+        return;
+    }
+    let mut text = [99u8; 4352];
+    push(w, with_sheet(&m[0..n], &mut text, k, d));
+}

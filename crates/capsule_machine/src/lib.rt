@@ -1,0 +1,98 @@
+// The functions g and p of crate entry_machine, over gathering and capsules; and how an entry's answers are put into the machine's memory.
+use c_capsule::meanderpeg_capsule_item_length;
+use c_capsule::meanderpeg_capsule_item_start;
+use c_capsule::meanderpeg_capsule_refusal;
+use c_gather::meanderpeg_gather;
+use c_image::meanderpeg_capsule_image_length;
+use c_image::meanderpeg_capsule_image_start;
+use c_values::meanderpeg_capsule_drivers;
+use c_values::meanderpeg_capsule_hardware_instance;
+use c_values::meanderpeg_capsule_image_index;
+use c_values::meanderpeg_capsule_payloads;
+use c_values::meanderpeg_capsule_type_guid;
+use c_vendor_code::meanderpeg_capsule_vendor_code_length;
+use c_vendor_code::meanderpeg_capsule_vendor_code_start;
+use machine::bytes::load;
+use machine::bytes::store;
+use machine::pop;
+
+pub const ANSWERS: usize = 240000;
+
+// What stands behind a reference before a call, so that a refusal that alters it is seen; and eight such bytes.
+pub const BEFORE: u64 = 99;
+
+const BYTES_BEFORE: u64 = 0x6363_6363_6363_6363;
+
+// What stands behind a reference, as an answer: with a refusal how it differs from what stood there, so 0 where it is as it was.
+pub fn behind(number: u32, v: u64, before: u64) -> u64 {
+    if number == 0 {
+        return v;
+    }
+    v ^ before
+}
+
+// Puts the answers of an entry into the memory.
+pub fn answer(m: &mut [u8], a: &[u64; 13]) {
+    let mut i = 0;
+    while i < 13 {
+        store(m, ANSWERS + 8 * i, 8, a[i]);
+        i += 1;
+    }
+}
+
+pub fn gather(w: &mut [u64; 256], m: &mut [u8]) {
+    let first = pop(w);
+    let base = pop(w);
+    let n = pop(w) as usize;
+    if m.len() < n {
+        return;
+    }
+    let mut address = BEFORE;
+    let mut total = BEFORE;
+    let number = meanderpeg_gather(&mut m[0..n], base, first, &mut address, &mut total);
+    let mut a = [0u64; 13];
+    a[0] = number as u64;
+    a[1] = behind(number, address, BEFORE);
+    a[2] = behind(number, total, BEFORE);
+    answer(m, &a);
+}
+
+// Eight bytes of a GUID.
+fn half(guid: &[u8; 16], at: usize) -> u64 {
+    load(guid, at, 8)
+}
+
+// What is told of item k of the capsule s.
+fn told(s: &[u8], k: usize) -> [u64; 13] {
+    let mut a = [0u64; 13];
+    let mut guid = [99u8; 16];
+    let number = meanderpeg_capsule_type_guid(s, k, &mut guid);
+    a[0] = if number == meanderpeg_capsule_refusal(s, k) {
+        number as u64
+    } else {
+        1000
+    };
+    a[1] = meanderpeg_capsule_item_start(s, k) as u64;
+    a[2] = meanderpeg_capsule_item_length(s, k) as u64;
+    a[3] = meanderpeg_capsule_image_start(s, k) as u64;
+    a[4] = meanderpeg_capsule_image_length(s, k) as u64;
+    a[5] = meanderpeg_capsule_vendor_code_start(s, k) as u64;
+    a[6] = meanderpeg_capsule_vendor_code_length(s, k) as u64;
+    a[7] = behind(number, half(&guid, 0), BYTES_BEFORE);
+    a[8] = behind(number, half(&guid, 8), BYTES_BEFORE);
+    a[9] = meanderpeg_capsule_image_index(s, k) as u64;
+    a[10] = meanderpeg_capsule_hardware_instance(s, k);
+    a[11] = meanderpeg_capsule_drivers(s) as u64;
+    a[12] = meanderpeg_capsule_payloads(s) as u64;
+    a
+}
+
+pub fn capsule(w: &mut [u64; 256], m: &mut [u8]) {
+    let k = pop(w) as usize;
+    let n = pop(w) as usize;
+    if m.len() < n {
+        return;
+    }
+    let a = told(&m[0..n], k);
+    answer(m, &a);
+}
