@@ -1,7 +1,7 @@
 // The functions a, o, s and t of crate entry_machine, over lists of stores and over areas.
 use c_area::meanderpeg_sheet;
 use c_area::meanderpeg_soundness;
-use capsule_machine::answer;
+use machine::answers::answer;
 use machine::bytes::digest;
 use machine::bytes::digest_bytes;
 use machine::bytes::load;
@@ -11,30 +11,6 @@ use machine::push;
 
 // Where copy 1 starts.
 const COPY_1: usize = 8192;
-
-pub fn fill(out: &mut [u32]) {
-    let n = out.len();
-    let mut i = 0;
-    while i < n {
-        out[i] = 7;
-        i += 1;
-    }
-}
-
-fn differs(n: u32) -> u64 {
-    if n == 7 { 0 } else { 1 }
-}
-
-// How many numbers past the pairs are no 7.
-pub fn altered(out: &[u32], pairs: usize) -> u64 {
-    let mut count: u64 = 0;
-    let mut i = pairs % 4294967296 * 2;
-    while i < out.len() {
-        count = std::num::wrapping_add_u64(count, differs(out[i]));
-        i += 1;
-    }
-    count
-}
 
 fn number(out: &[u32], i: usize) -> u32 {
     if i < out.len() { out[i] } else { 0 }

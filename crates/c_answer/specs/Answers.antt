@@ -1,9 +1,33 @@
--- An answer in numbers, as the exported functions give it (include/meanderpeg.h). Assumes nothing.
+-- A session and an answer in numbers, as the exported functions give them (include/meanderpeg.h). Assumes nothing.
 use Prim.Native.Nat.{ℕ}
 use mathlib.Core.List.{List, [], _∷_}
+use Rattle.session.specs.declared.Session.{Session}
+use Rattle.session.specs.declared.Session.the-variants.{Regular, Staging, Trial, Fallback, Restart}
 use Rattle.session.specs.Outcome.{Decision, accepted, refusal, Outcome}
 use Rattle.session.specs.Calls.{Result}
-use Rattle.c_session.specs.Numbers.{kindOf, bankOf, setOf}
+
+-- "Five session states: Regular, Staging, Trial, Fallback, Restart", numbered in that order from 0
+abbrev pub kindOf : Session → ℕ
+kindOf Regular = 0
+kindOf (Staging bank set) = 1
+kindOf Trial = 2
+kindOf Fallback = 3
+kindOf Restart = 4
+
+-- "Staging carries its bank and a 32-bit set of committed images"; for every other session both are 0
+abbrev pub bankOf : Session → ℕ
+bankOf Regular = 0
+bankOf (Staging bank set) = bank
+bankOf Trial = 0
+bankOf Fallback = 0
+bankOf Restart = 0
+
+abbrev pub setOf : Session → ℕ
+setOf Regular = 0
+setOf (Staging bank set) = set
+setOf Trial = 0
+setOf Fallback = 0
+setOf Restart = 0
 
 -- The number answered, and what stands behind the references at exit: 0 and the next values where accepted, else the refusal's number and what
 -- stood there

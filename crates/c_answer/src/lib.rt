@@ -1,14 +1,51 @@
 // An answer as the exported functions have it: in a number and in numbers behind references, which a refusal leaves as they were.
-use c_session::bank_of;
-use c_session::kind_of;
-use c_session::set_of;
 use refusals::Refusal;
 use session::Answer;
+use session::Session;
 use session::Verdict;
 ghost use mathlib.Core.Path.{_≡_};
 ghost use Rattle.refusals.specs.Number.{valuesOf};
 ghost use Rattle.session.specs.Outcome.{outcomeOf};
-ghost use Rattle.c_answer.specs.Answers.{missingOr, exportedKind, exportedPairs, exportedAnswer, exportedMissing};
+ghost use Rattle.c_answer.specs.Answers.{kindOf, bankOf, setOf, missingOr, exportedKind, exportedPairs, exportedAnswer, exportedMissing};
+
+// The number of a session's kind.
+fn kind_of(session: Session) -> u32
+    ensures { λ r. ⌜ r ≡ kindOf session ⌝ }
+{
+    match session {
+        Session::Regular => 0,
+        Session::Staging { bank: _, set: _ } => 1,
+        Session::Trial => 2,
+        Session::Fallback => 3,
+        Session::Restart => 4,
+    }
+}
+
+// The bank of a Staging session, else 0.
+fn bank_of(session: Session) -> u32
+    ensures { λ r. ⌜ r ≡ bankOf session ⌝ }
+{
+    match session {
+        Session::Regular => 0,
+        Session::Staging { bank, set: _ } => bank,
+        Session::Trial => 0,
+        Session::Fallback => 0,
+        Session::Restart => 0,
+    }
+}
+
+// The set of a Staging session, else 0.
+fn set_of(session: Session) -> u32
+    ensures { λ r. ⌜ r ≡ setOf session ⌝ }
+{
+    match session {
+        Session::Regular => 0,
+        Session::Staging { bank: _, set } => set,
+        Session::Trial => 0,
+        Session::Fallback => 0,
+        Session::Restart => 0,
+    }
+}
 
 // Gives the kind of the next session; for start-up, which has no list and never answers Staging.
 pub fn give_kind(answer: Answer, kind: &mut u32) -> u32

@@ -1,4 +1,4 @@
-// The functions g and p of crate entry_machine, over gathering and capsules; and how an entry's answers are put into the machine's memory.
+// The functions g and p of crate entry_machine, over gathering and capsules.
 use c_capsule::meanderpeg_capsule_item_length;
 use c_capsule::meanderpeg_capsule_item_start;
 use c_capsule::meanderpeg_capsule_refusal;
@@ -12,33 +12,14 @@ use c_values::meanderpeg_capsule_payloads;
 use c_values::meanderpeg_capsule_type_guid;
 use c_vendor_code::meanderpeg_capsule_vendor_code_length;
 use c_vendor_code::meanderpeg_capsule_vendor_code_start;
+use machine::answers::BEFORE;
+use machine::answers::answer;
+use machine::answers::behind;
 use machine::bytes::load;
-use machine::bytes::store;
 use machine::pop;
 
-pub const ANSWERS: usize = 240000;
-
-// What stands behind a reference before a call, so that a refusal that alters it is seen; and eight such bytes.
-pub const BEFORE: u64 = 99;
-
+// Eight bytes that hold BEFORE.
 const BYTES_BEFORE: u64 = 0x6363_6363_6363_6363;
-
-// What stands behind a reference, as an answer: with a refusal how it differs from what stood there, so 0 where it is as it was.
-pub fn behind(number: u32, v: u64, before: u64) -> u64 {
-    if number == 0 {
-        return v;
-    }
-    v ^ before
-}
-
-// Puts the answers of an entry into the memory.
-pub fn answer(m: &mut [u8], a: &[u64; 13]) {
-    let mut i = 0;
-    while i < 13 {
-        store(m, ANSWERS + 8 * i, 8, a[i]);
-        i += 1;
-    }
-}
 
 pub fn gather(w: &mut [u64; 256], m: &mut [u8]) {
     let first = pop(w);

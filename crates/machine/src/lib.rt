@@ -33,6 +33,7 @@
 // go on, and how many turns are left, 0 for a procedure), procedures' positions at 192 to 255. Both stacks are rings: past the end they go on
 // at the beginning. No letter names the words below.
 // A text between quotes has no `#`, `[`, `(`, `)` or `]` in it.
+pub mod answers;
 pub mod bytes;
 
 const POSITION: usize = 0;

@@ -3,32 +3,23 @@ use mathlib.Core.Path.{_≡_}
 use Prim.Native.Nat.{_≤_, _-_}
 use lib.ListN.{length}
 use borrow.Author.Needs.{needs}
-use Rattle.capsule_machine.proofs.answer.Statement.{statement}
-use Rattle.capsule_machine.proofs.answer.Tie as tie
+use Rattle.call_machine.proofs.fill.Statement.{statement}
+use Rattle.call_machine.proofs.fill.Tie as tie
 
 abbrev Inv-loop : tie.InvT-loop
-Inv-loop m₀ a i₀ m i = (i ≤ 13) × (length m ≡ length m₀)
+Inv-loop out₀ n i₀ out i = (i ≤ n) × (length out ≡ length out₀)
 
 abbrev μ-loop : tie.MeasureT-loop
-μ-loop m₀ a i₀ m i = 13 - i
+μ-loop out₀ n i₀ out i = n - i
 
 loop-holds : tie.Need-loop-holds Inv-loop μ-loop
 loop-holds c = search needs
 
-mul-store : tie.Need-mul-store Inv-loop μ-loop
-mul-store c = search needs
+mul-out : tie.Need-mul-out Inv-loop μ-loop
+mul-out c = search needs
 
-add-store : tie.Need-add-store Inv-loop μ-loop
-add-store c = search needs
-
-mul-store-2 : tie.Need-mul-store-2 Inv-loop μ-loop
-mul-store-2 c = search needs
-
-element-copy-out-store : tie.Need-element-copy-out-store Inv-loop μ-loop
-element-copy-out-store c = search needs
-
-store-requires : tie.Need-store-requires Inv-loop μ-loop
-store-requires c κs = search needs
+slice-write-out : tie.Need-slice-write-out Inv-loop μ-loop
+slice-write-out c = search needs
 
 add-i : tie.Need-add-i Inv-loop μ-loop
 add-i c = search needs
@@ -45,18 +36,15 @@ same-length c = search needs
 returns : tie.Need-returns Inv-loop μ-loop
 returns c = search needs
 
-pub answer-spec : {M : Type 1} → statement M
-answer-spec =
+pub fill-spec : {M : Type 1} → statement M
+fill-spec =
     tie.close
     (tie.spec
     Inv-loop
     μ-loop
     loop-holds
-    mul-store
-    add-store
-    mul-store-2
-    element-copy-out-store
-    store-requires
+    mul-out
+    slice-write-out
     add-i
     loop-less
     loop-again

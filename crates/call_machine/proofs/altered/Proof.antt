@@ -2,8 +2,8 @@
 use Prim.Native.Nat.{_≤_, _-_}
 use lib.ListN.{length}
 use borrow.Author.Needs.{needs}
-use Rattle.area_machine.proofs.altered.Statement.{statement}
-use Rattle.area_machine.proofs.altered.Tie as tie
+use Rattle.call_machine.proofs.altered.Statement.{statement}
+use Rattle.call_machine.proofs.altered.Tie as tie
 
 abbrev Inv-loop : tie.InvT-loop
 Inv-loop out pairs count₀ i₀ count i = 0 ≤ i

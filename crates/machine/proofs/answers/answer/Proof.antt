@@ -3,23 +3,32 @@ use mathlib.Core.Path.{_≡_}
 use Prim.Native.Nat.{_≤_, _-_}
 use lib.ListN.{length}
 use borrow.Author.Needs.{needs}
-use Rattle.area_machine.proofs.fill.Statement.{statement}
-use Rattle.area_machine.proofs.fill.Tie as tie
+use Rattle.machine.proofs.answers.answer.Statement.{statement}
+use Rattle.machine.proofs.answers.answer.Tie as tie
 
 abbrev Inv-loop : tie.InvT-loop
-Inv-loop out₀ n i₀ out i = (i ≤ n) × (length out ≡ length out₀)
+Inv-loop m₀ a i₀ m i = (i ≤ 13) × (length m ≡ length m₀)
 
 abbrev μ-loop : tie.MeasureT-loop
-μ-loop out₀ n i₀ out i = n - i
+μ-loop m₀ a i₀ m i = 13 - i
 
 loop-holds : tie.Need-loop-holds Inv-loop μ-loop
 loop-holds c = search needs
 
-mul-out : tie.Need-mul-out Inv-loop μ-loop
-mul-out c = search needs
+mul-store : tie.Need-mul-store Inv-loop μ-loop
+mul-store c = search needs
 
-slice-write-out : tie.Need-slice-write-out Inv-loop μ-loop
-slice-write-out c = search needs
+add-store : tie.Need-add-store Inv-loop μ-loop
+add-store c = search needs
+
+mul-store-2 : tie.Need-mul-store-2 Inv-loop μ-loop
+mul-store-2 c = search needs
+
+element-copy-out-store : tie.Need-element-copy-out-store Inv-loop μ-loop
+element-copy-out-store c = search needs
+
+store-requires : tie.Need-store-requires Inv-loop μ-loop
+store-requires c κs = search needs
 
 add-i : tie.Need-add-i Inv-loop μ-loop
 add-i c = search needs
@@ -36,15 +45,18 @@ same-length c = search needs
 returns : tie.Need-returns Inv-loop μ-loop
 returns c = search needs
 
-pub fill-spec : {M : Type 1} → statement M
-fill-spec =
+pub answer-spec : {M : Type 1} → statement M
+answer-spec =
     tie.close
     (tie.spec
     Inv-loop
     μ-loop
     loop-holds
-    mul-out
-    slice-write-out
+    mul-store
+    add-store
+    mul-store-2
+    element-copy-out-store
+    store-requires
     add-i
     loop-less
     loop-again
