@@ -1,6 +1,8 @@
 -- A session and an answer in numbers, as the exported functions give them (include/meanderpeg.h). Assumes nothing.
 use Prim.Native.Nat.{ℕ}
+use mathlib.Core.Bool.{cond}
 use mathlib.Core.List.{List, [], _∷_}
+use lib.Dec.{eqb}
 use Rattle.session.specs.declared.Session.{Session}
 use Rattle.session.specs.declared.Session.the-variants.{Regular, Staging, Trial, Fallback, Restart}
 use Rattle.session.specs.Outcome.{Decision, accepted, refusal, Outcome}
@@ -50,17 +52,20 @@ Numbers = ℕ × ℕ × ℕ × ℕ
 abbrev pub exportedAnswer : Outcome → Numbers → ℕ × Numbers
 exportedAnswer o old = answered (o .1) (kindOf (o .0), bankOf (o .0), setOf (o .0), o .2) old
 
--- "27 also the count": what a refusal tells beside its number, and no other number has any
-abbrev pub missingOr : (old : ℕ) → (values : List ℕ) → ℕ
-missingOr old [] = old
-missingOr old (count ∷ more) = count
+-- "27 also the count": the value that 27 tells beside its number. Any other number, and an accepted answer, leaves what stood there
+abbrev pub countOr : (old : ℕ) → (values : List ℕ) → ℕ
+countOr old [] = old
+countOr old (count ∷ more) = count
 
-abbrev pub toldBy : Decision → List ℕ
-toldBy accepted = []
-toldBy (refusal number values) = values
+abbrev pub missingOr : (old number : ℕ) → (values : List ℕ) → ℕ
+missingOr old number values = cond (eqb number 27) (countOr old values) old
+
+abbrev pub missingAfter : (old : ℕ) → Decision → ℕ
+missingAfter old accepted = old
+missingAfter old (refusal number values) = missingOr old number values
 
 abbrev pub exportedMissing : Outcome → (missing : ℕ) → ℕ
-exportedMissing o missing = missingOr missing (toldBy (o .1))
+exportedMissing o missing = missingAfter missing (o .1)
 
 -- with the store slice at exit: repair, a call, and End with its count of missing images
 abbrev pub exportedRepair : Result → (pairs : ℕ) → (ℕ × ℕ) × List ℕ

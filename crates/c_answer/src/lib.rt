@@ -4,7 +4,7 @@ use session::Answer;
 use session::Session;
 use session::Verdict;
 ghost use mathlib.Core.Path.{_≡_};
-ghost use Rattle.refusals.specs.Number.{valuesOf};
+ghost use Rattle.refusals.specs.Number.{numberOf, valuesOf};
 ghost use Rattle.session.specs.Outcome.{outcomeOf};
 ghost use Rattle.c_answer.specs.Answers.{kindOf, bankOf, setOf, missingOr, exportedKind, exportedPairs, exportedAnswer, exportedMissing};
 
@@ -96,7 +96,7 @@ pub fn give(answer: Answer, kind: &mut u32, bank: &mut u32, set: &mut u32, pairs
 
 // How many images a refusal tells to be missing, else what was told before.
 fn missing_or(told: u32, why: Refusal) -> u32
-    ensures { λ r. ⌜ r ≡ missingOr told (valuesOf why) ⌝ }
+    ensures { λ r. ⌜ r ≡ missingOr told (numberOf why) (valuesOf why) ⌝ }
 {
     let Refusal::ImagesMissing(count) = why else {
         return told;

@@ -6,7 +6,7 @@ use types.Run.{OneOf, miss}
 use denote.Enum.Declared.{tagOf}
 use borrow.Author.Needs.{needs}
 use Rattle.refusals.proofs.Refusal.{the-type}
-use Rattle.refusals.specs.Number.{valuesOf}
+use Rattle.refusals.specs.Number.{numberOf, valuesOf}
 use Rattle.refusals.specs.declared.Refusal.{Refusal}
 use Rattle.refusals.specs.declared.Refusal.the-variants.{WindowEnd, DescriptorCount, DescriptorAddress, BlockOutside, TotalLength, TotalZero, NoPlace, CapsuleShort, CapsuleSizes, CapsuleFlags, CapsuleGuid, CapsuleBody, CapsulePayload, NoItem, AreaLength, NoSoundCopy, CopiesDiffer, StoreSlice, StagingFault, SessionState, NoImage, ImagesMissing, BootedBank}
 use Rattle.c_answer.specs.Answers.{missingOr}
@@ -17,7 +17,7 @@ use Rattle.c_answer.proofs.missing_or.Tie as tie
 abbrev others : List ℕ
 others = 0 ∷ 1 ∷ 2 ∷ 3 ∷ 4 ∷ 5 ∷ 6 ∷ 7 ∷ 8 ∷ 9 ∷ 10 ∷ 11 ∷ 12 ∷ 13 ∷ 14 ∷ 15 ∷ 16 ∷ 17 ∷ 18 ∷ 19 ∷ 20 ∷ 22 ∷ []
 
-silent : (why : Refusal) (told : ℕ) → OneOf others (tagOf the-type why) → told ≡ missingOr told (valuesOf why)
+silent : (why : Refusal) (told : ℕ) → OneOf others (tagOf the-type why) → told ≡ missingOr told (numberOf why) (valuesOf why)
 silent WindowEnd told h = refl
 silent DescriptorCount told h = refl
 silent DescriptorAddress told h = refl
