@@ -3,8 +3,9 @@
 //! repaired by children that may be killed too. "What start-up reads" must be the old record or the new, the same after each
 //! repair, and after a finished repair the whole area is the one that document 01 gives for that record.
 //!
-//! Arguments: the number of kills to stop at (3,000), the seconds to stop at (60), the seed (1). Exit status 1 if anything else
-//! was read or left. With `backwards` as a fourth argument the children do a change's stores in the wrong order, to show that
+//! Arguments: the number of kills to stop at (3,000), the seconds to stop at (60), the seed (1). Exit status 1 if nothing was killed, if no
+//! change was cut between two of its stores, or if anything else
+//! than the old or the new record was read or left. With `backwards` as a fourth argument the children do a change's stores in the wrong order, to show that
 //! this is noticed: the exit status must then be 1.
 
 #[path = "../tests/compare/mod.rs"]
@@ -221,7 +222,8 @@ fn main() {
         c.kills, c.repairs_killed, c.repairs_finished, c.start_ups
     );
     println!("read after the change's cut: old {}, new {}; anything else {}", c.old, c.new, c.else_read);
-    if c.else_read > 0 {
+    // A run that killed nothing, or never between two stores, shows nothing.
+    if c.else_read > 0 || c.kills == 0 || c.middle == 0 {
         std::process::exit(1);
     }
 }

@@ -194,6 +194,9 @@ fn answer_capsule(seed: u64, k: u64, account: &mut Account) -> String {
     account.answers.long(instance);
     account.answers.word(drivers as u32);
     account.answers.word(payloads as u32);
+    for (start, length) in parts {
+        account.answers.bytes(&c[start as usize..(start + length) as usize]);
+    }
     if number > 0 {
         account.tally.add(&format!("refusal {number}"));
     } else if i < drivers as u64 {

@@ -433,7 +433,7 @@ pub fn capsule_input(seed: u64, k: u64) -> CapsuleInput {
     let t = d.below(8);
     let w = d.below(64) as usize;
     let mut item = match t {
-        6 => count as u64,
+        6 => (count + w % 2) as u64,
         7 => [4_294_967_295, 65_536, 4_294_967_296, u64::MAX][w % 4],
         _ => (w % count.max(1)) as u64,
     };
@@ -722,7 +722,7 @@ pub fn break_rule(copy: &mut [u8], plan: &RecordPlan, rule: u64, v: usize, i: us
             match v {
                 0 => copy[24 + b] = 253,
                 1 => copy[24 + b] = 251,
-                2 => copy[24 + past] = if plan.banks < 4 { 252 } else { 0 },
+                2 => copy[24 + past] = if plan.banks < 4 && z < 8 { 252 } else { 0 },
                 _ => copy[24 + past] = if plan.banks < 4 { 254 } else { 250 },
             }
         }

@@ -1,4 +1,4 @@
-//! Meanderpeg, second implementation: everything that document 01 asks for, written a second time from the papers alone.
+//! Meanderpeg, second implementation: everything that document 01 asks for, written a second time from the papers and docs/DECISIONS.md, without a look at the first.
 //!
 //! Plain and slow on purpose. Each rule stands where a reader of document 01 looks for it, and every comment names the
 //! section of document 01 that the rule comes from. Whole numbers never wrap: they are `u128` here.

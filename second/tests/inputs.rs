@@ -292,18 +292,18 @@ fn the_place_is_the_lowest() {
 fn digests_as_they_stand() {
     let stand: [(&str, u64, u64); 13] = [
         ("gather", 0x2dac9d04, 0xd57fdcb2),
-        ("capsule", 0xc2bcba37, 0x3778a632),
+        ("capsule", 0x70f6ca52, 0xd3e7b734),
         ("start_up", 0x95a0993a, 0xeb2d5c2b),
-        ("repair", 0xc4100648, 0xc5f21a0b),
-        ("begin", 0x7d41cbfb, 0x7cbbee43),
-        ("commit", 0x938437c4, 0x0832a974),
+        ("repair", 0x0466726f, 0x1d2902f1),
+        ("begin", 0x04b153a8, 0x2a511e2b),
+        ("commit", 0xb075e7ca, 0x17ad6216),
         ("end", 0x1d2741e4, 0x60f8810a),
-        ("cancel", 0xec257fa3, 0x4c0761d9),
+        ("cancel", 0x7755b884, 0xbf2f2521),
         ("accept", 0x86f05853, 0xff60abe1),
         ("select_previous", 0x0cce8511, 0x9d6a203b),
         ("sheet", 0x26331f3a, 0xac6f1373),
-        ("soundness", 0x8bf052bc, 0x2afe5ca3),
-        ("rules", 0x8bf052bc, 0x0eb5fde7),
+        ("soundness", 0x31a34d57, 0x2afe5ca3),
+        ("rules", 0x31a34d57, 0x0eb5fde7),
     ];
     for (entry, inputs, answers) in stand {
         let mut account = Account::default();

@@ -87,17 +87,28 @@ fn any_call(
     }
 }
 
-// The session before the call, as answers: start-up and repair have Restart.
+// The session before the call, as answers: repair has Restart. Start-up is given none: any number stands where its kind goes.
 fn session_before(m: &[u8], which: u64) -> [u64; 13] {
     let mut a = [0u64; 13];
     if which < 2 {
-        a[1] = RESTART;
+        a[1] = if which == 0 { BEFORE } else { RESTART };
         return a;
     }
     a[1] = load(m, ANSWERS + 8, 8);
     a[2] = load(m, ANSWERS + 16, 8);
     a[3] = load(m, ANSWERS + 24, 8);
     a
+}
+
+// The kind after a call; Restart where start-up is refused and left what stood there.
+fn kind_after(which: u64, number: u32, kind: u64) -> u64 {
+    if which != 0 {
+        return kind;
+    }
+    if number == 0 {
+        return kind;
+    }
+    behind(number, kind, BEFORE) ^ RESTART
 }
 
 // The answers of a call, but for what it altered.
@@ -128,7 +139,7 @@ fn answers(
     );
     let mut a = [0u64; 13];
     a[0] = number as u64;
-    a[1] = kind as u64;
+    a[1] = kind_after(which, number, kind as u64);
     a[2] = bank as u64;
     a[3] = set as u64;
     a[4] = if which == 0 {

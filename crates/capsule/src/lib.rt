@@ -50,7 +50,7 @@ pub fn item(s: &[u8], k: usize) -> &[u8]
     }
 }
 
-// Where a payload's image starts in its item. This function and the next serve c_capsule too, which tells starts in numbers.
+// Where a payload's image starts in its item. This function and the next serve c_image and c_vendor_code too, which tells starts in numbers.
 pub fn image_start(p: &[u8]) -> usize
     requires { ⌜ payloadRight (now p) ≡ true ⌝ }
     ensures { λ r. ⌜ r ≡ imageStart (now (p .entry)) ⌝ }

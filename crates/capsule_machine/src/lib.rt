@@ -1,4 +1,4 @@
-// The functions g and p of crate entry_machine, over gathering and capsules.
+// The functions g, p and q of crate entry_machine, over gathering and capsules.
 use c_capsule::meanderpeg_capsule_item_length;
 use c_capsule::meanderpeg_capsule_item_start;
 use c_capsule::meanderpeg_capsule_refusal;
@@ -15,8 +15,10 @@ use c_vendor_code::meanderpeg_capsule_vendor_code_start;
 use machine::answers::BEFORE;
 use machine::answers::answer;
 use machine::answers::behind;
+use machine::bytes::digest_bytes;
 use machine::bytes::load;
 use machine::pop;
+use machine::push;
 
 // Eight bytes that hold BEFORE.
 const BYTES_BEFORE: u64 = 0x6363_6363_6363_6363;
@@ -68,7 +70,7 @@ fn told(s: &[u8], k: usize) -> [u64; 13] {
     a
 }
 
-pub fn capsule(w: &mut [u64; 256], m: &mut [u8]) {
+pub fn told_of_item(w: &mut [u64; 256], m: &mut [u8]) {
     let k = pop(w) as usize;
     let n = pop(w) as usize;
     if m.len() < n {
@@ -76,4 +78,24 @@ pub fn capsule(w: &mut [u64; 256], m: &mut [u8]) {
     }
     let a = told(&m[0..n], k);
     answer(m, &a);
+}
+
+// The digest with the bytes of item k, of its image and of its vendor code, as the entries hand them out.
+fn with_parts(s: &[u8], k: usize, d: u64) -> u64 {
+    let item = capsule::item(s, k);
+    let image = capsule::image(s, k);
+    let code = capsule::vendor_code(s, k);
+    let x = digest_bytes(item, 0, item.len(), d);
+    let y = digest_bytes(image, 0, image.len(), x);
+    digest_bytes(code, 0, code.len(), y)
+}
+
+pub fn parts(w: &mut [u64; 256], m: &[u8]) {
+    let k = pop(w) as usize;
+    let n = pop(w) as usize;
+    let d = pop(w);
+    if m.len() < n {
+        return;
+    }
+    push(w, with_parts(&m[0..n], k, d));
 }

@@ -22,6 +22,6 @@ setBits = 32
 unfoldable pub missing : (set : ℕ) (r : List ℕ) → ℕ
 missing set r = imageCount r - onesIn setBits set
 
--- not 24, of a Staging session with that bank and set. Crate session states 24 by itself (specs/Calls.antt) and is proved to agree
+-- not 24, of a Staging session with that bank and set. Crate session states 24 by itself (crates/session/specs/Calls.antt) and is proved to agree
 unfoldable pub setFits : (bank set : ℕ) (r : List ℕ) → Bool
 setFits bank set r = eqb bank (updateBankOf r) && (eqb (state r bank) invalid && ltb set (2 ^ imageCount r))

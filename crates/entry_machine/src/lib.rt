@@ -1,8 +1,9 @@
-// The machine's functions over the exported C functions, each of which is proved equal to the entry behind it. They take from the stack (the
+// The machine's functions over the exported C functions, each of which is proved by the definitions of the entry behind it; q asks the entries themselves. They take from the stack (the
 // last is the top), and answer in words of eight bytes from 240,000 of the memory on. `out` is the store slice.
 //     g N base first         gathers in m[0..N]: number, address, total
 //     p length item          the capsule m[0..length]: refusal; start and length of item, image, vendor code; type GUID (two words); index;
 //                            instance; drivers; payloads
+//     q digest length item   pushes the digest with the bytes of item, image and vendor code, as the entries of crate capsule hand them out
 //     u L booted             start-up on the area m[0..L]: number; kind, bank, set (4 0 0 with a refusal)
 //     r L n                  repair with out[0..n]: number; 4 0 0; pairs; 0; altered
 //     c call L n request     call 2 Begin, 3 Commit, 4 End, 5 Cancel, 6 Accept, 7 Select previous; the session stands in answers 1 to 3, the
@@ -21,15 +22,17 @@ use area_machine::sheet;
 use area_machine::soundness;
 use area_machine::strays;
 use call_machine::entry;
-use capsule_machine::capsule;
 use capsule_machine::gather;
+use capsule_machine::parts;
+use capsule_machine::told_of_item;
 use machine::pop;
 use machine::push;
 
 fn function(w: &mut [u64; 256], m: &mut [u8], out: &mut [u32], c: u8) {
     match c {
         b'g' => gather(w, m),
-        b'p' => capsule(w, m),
+        b'p' => told_of_item(w, m),
+        b'q' => parts(w, m),
         b'u' | b'r' | b'c' => entry(w, m, out, c),
         b'a' => {
             let pairs = pop(w) as usize;

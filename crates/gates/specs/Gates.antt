@@ -1,4 +1,4 @@
--- What the functions here answer to those of a call. Nothing here is needed to read an entry's promise: crate session states 20 to 24 by itself
+-- What the functions here answer to those of a call. Nothing here is needed to read an entry's promise: crate session states 20 to 23 by itself
 -- and is proved to agree. a is the bytes of the area. Assumes nothing.
 use Prim.Native.Nat.{ℕ}
 use mathlib.Core.Bool.{cond, not, _||_}

@@ -12,7 +12,7 @@ ghost use Rattle.copies.specs.Copies.{sourceOf};
 ghost use Rattle.copies.specs.declared.Source.the-variants.{Copy0};
 ghost use Rattle.gates.specs.Gates.{areaGate, equalGate};
 
-// Whether area and store slice let a call go on to its session, and if not, why.
+// Whether a call goes on to its own line, and if not, why.
 pub enum Gate {
     Open,
     Shut(Refusal),

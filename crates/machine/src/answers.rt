@@ -3,7 +3,7 @@ use crate::bytes::store;
 
 pub const ANSWERS: usize = 240000;
 
-// What stands behind a reference before a call, so that a refusal that alters it is seen; and eight such bytes.
+// What stands behind a reference before a call, so that a refusal that alters it is seen.
 pub const BEFORE: u64 = 99;
 
 // What stands behind a reference, as an answer: with a refusal how it differs from what stood there, so 0 where it is as it was.

@@ -1,4 +1,6 @@
--- What the functions here answer to those of a call (crates/admission/specs/Lines.antt). Assumes nothing.
+-- What the functions here answer to those of a call. Nothing here is needed to read an entry's promise: crate session states each call's line by
+-- itself (crates/session/specs/Calls.antt) and is proved to agree. `listed` and `ofImage` are in crates/admission/specs/Lines.antt; a is the bytes
+-- of the area, s the numbers of the store slice, g the bytes of a type GUID. Assumes nothing.
 use Prim.Native.Nat.{ℕ}
 use mathlib.Core.Bool.{cond}
 use mathlib.Core.List.{List}

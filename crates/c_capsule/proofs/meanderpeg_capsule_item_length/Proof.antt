@@ -1,4 +1,4 @@
--- `capsule_item_length` meets its contract: the bytes of the part are as many. Assumes nothing.
+-- `meanderpeg_capsule_item_length` meets its contract: the bytes of the part are as many. Assumes nothing.
 use borrow.Author.Needs.{needs}
 use mathlib.Core.Path.{ap}
 use lib.ListN.{length}

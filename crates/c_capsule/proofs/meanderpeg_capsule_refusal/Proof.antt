@@ -1,4 +1,4 @@
--- `capsule_refusal` meets its contract. Assumes nothing.
+-- `meanderpeg_capsule_refusal` meets its contract. Assumes nothing.
 use borrow.Author.Needs.{needs}
 use mathlib.Core.Path.{_∙_}
 use Rattle.c_capsule.proofs.meanderpeg_capsule_refusal.Statement.{statement}
