@@ -12,7 +12,8 @@
  *   its parts have been used.
  * - Each store listed is done as one aligned write of 32 bits that lands whole, and before the next one starts; all are done before
  *   the next session is used. Byte by byte, or through a cache that writes back in another order, a power cut can leave anything.
- * - There is enough stack: gathering has an array of 2 KiB, and no function calls itself deeply; no proof bounds it.
+ * - There is enough stack. No proof bounds it. Gathering needs most: an array of 2 KiB, and the reader of the list calls itself once a
+ *   descriptor, so 256 deep, some 112 bytes each in this archive: 32 KiB are enough there. All others need less.
  *
  * Every function that returns a uint32_t returns 0 for accepted, else a number of `enum meanderpeg_refusal`; a refusal alters nothing
  * that was lent, but that End tells with 27 how many images are missing. The archive is for x86-64. */
