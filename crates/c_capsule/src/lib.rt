@@ -2,7 +2,7 @@
 ghost use mathlib.Core.Path.{_≡_};
 ghost use Rattle.capsule_check.specs.Verdict.{refusalNumber};
 ghost use Rattle.capsule_check.specs.Item.{located};
-ghost use Rattle.capsule.specs.Parts.{itemPart, imagePart, vendorCodePart, lengthIn};
+ghost use Rattle.capsule.specs.Parts.{itemPart, lengthIn};
 
 // The number of the refusal for item k of a capsule, or 0 for none.
 #[no_mangle]

@@ -1,14 +1,15 @@
 // The way in from C and Rust (include/meanderpeg.h): the images of a capsule's items. A slice passes as a pointer and a length.
 ghost use mathlib.Core.Path.{_≡_};
 ghost use Rattle.capsule_check.specs.Item.{located};
-ghost use Rattle.capsule.specs.Parts.{imagePart, vendorCodePart, lengthIn};
+ghost use Rattle.capsule.specs.Parts.{lengthIn};
+ghost use Rattle.capsule_parts.specs.Parts.{imagePart};
 
 // The length of the image of item k.
 #[no_mangle]
 pub extern "C" fn meanderpeg_capsule_image_length(s: &[u8], k: usize) -> usize
     ensures { λ r. ⌜ r ≡ lengthIn (now (s .entry)) (imagePart (now (s .entry)) (located (now (s .entry)) k)) ⌝ }
 {
-    capsule::image(s, k).len()
+    capsule_parts::image(s, k).len()
 }
 
 // Where the image of item k starts in the capsule; 0 with a refusal.
@@ -19,7 +20,8 @@ pub extern "C" fn meanderpeg_capsule_image_start(s: &[u8], k: usize) -> usize
     let found = capsule_check::locate(s, k);
     match found {
         capsule_check::Item::Driver { start, end: _ } => start,
-        capsule_check::Item::Payload { start, end } => start + capsule::image_start(&s[start..end]),
+        capsule_check::Item::Payload { start, end } => start
+            + capsule_parts::image_start(&s[start..end]),
         capsule_check::Item::Refused(_) => 0,
     }
 }

@@ -1,4 +1,4 @@
--- What the exported functions tell of a capsule s beyond the definitions of crate `capsule_values`: the type GUID in lent bytes. Assumes nothing.
+-- What the exported functions tell of a capsule s beyond the definitions of crates `capsule_counts` and `capsule_values`: the type GUID in lent bytes. Assumes nothing.
 use Prim.Native.Nat.{ℕ}
 use mathlib.Core.Bool.{cond}
 use mathlib.Core.List.{List}

@@ -2,7 +2,7 @@
 // and a length, an array of 16 bytes behind a reference as a pointer.
 ghost use mathlib.Core.Path.{_≡_};
 ghost use Rattle.capsule_check.specs.Item.{located};
-ghost use Rattle.capsule_values.specs.Count.{driverCount, payloadCount};
+ghost use Rattle.capsule_counts.specs.Count.{driverCount, payloadCount};
 ghost use Rattle.capsule_values.specs.Shown.{imageIndexOf, hardwareInstanceOf};
 ghost use Rattle.c_values.specs.Values.{shownGuid};
 
@@ -11,14 +11,14 @@ ghost use Rattle.c_values.specs.Values.{shownGuid};
 pub extern "C" fn meanderpeg_capsule_drivers(s: &[u8]) -> usize
     ensures { λ r. ⌜ r ≡ driverCount (now (s .entry)) ⌝ }
 {
-    capsule_values::driver_count(s)
+    capsule_counts::driver_count(s)
 }
 
 #[no_mangle]
 pub extern "C" fn meanderpeg_capsule_payloads(s: &[u8]) -> usize
     ensures { λ r. ⌜ r ≡ payloadCount (now (s .entry)) ⌝ }
 {
-    capsule_values::payload_count(s)
+    capsule_counts::payload_count(s)
 }
 
 // The type GUID of item k, zeros for a driver. On a refusal the lent bytes stay, since they are the caller's.

@@ -1,2 +1,2 @@
--- What the entries hand out of an item. Assumes nothing.
+-- What a part is, and what is handed out for an item. Assumes nothing.
 pub mod Parts

@@ -1,12 +1,11 @@
--- The parts of a capsule that are handed out for an item (document 01, "The capsule"). An `Item` says where the item lies,
+-- What a part of a capsule is, and the one that is handed out for a whole item (document 01, "The capsule"). An `Item` says where the item lies,
 -- from byte a of the capsule up to, not including, byte e, or the refusal. Assumes nothing.
 use Prim.Native.Nat.{ℕ, _+_}
 use mathlib.Core.Path.{_≡_}
 use mathlib.Core.List.{List}
 use lib.ListN.{length}
 use denote.Ref.{RefT, ptr, now}
-use Rattle.capsule_rules.specs.Body.{part}
-use Rattle.capsule_rules.specs.Payload.{imageStart, imageEnd, vendorCodeEnd}
+use Rattle.capsule_body.specs.Body.{part}
 use Rattle.capsule_check.specs.declared.Item.{Item}
 use Rattle.capsule_check.specs.declared.Item.the-variants.{Driver, Payload, Refused}
 
@@ -39,16 +38,3 @@ abbrev pub itemPart : Item → Range
 itemPart (Driver a e) = range a e
 itemPart (Payload a e) = range a e
 itemPart (Refused r) = emptyAtStart
-
--- "the whole item for a driver, the image and the vendor code for a payload": a driver's image is its whole item
--- (docs/DECISIONS.md, C1). "32 or 40 bytes, then the image"
-abbrev pub imagePart : List ℕ → Item → Range
-imagePart s (Driver a e) = range a e
-imagePart s (Payload a e) = range (a + imageStart (part s a e)) (a + imageEnd (part s a e))
-imagePart s (Refused r) = emptyAtStart
-
--- "A driver's vendor code is the empty part at its item's end." Of a payload: "the image, then the vendor code"
-abbrev pub vendorCodePart : List ℕ → Item → Range
-vendorCodePart s (Driver a e) = range e e
-vendorCodePart s (Payload a e) = range (a + imageEnd (part s a e)) (a + vendorCodeEnd (part s a e))
-vendorCodePart s (Refused r) = emptyAtStart

@@ -11,12 +11,12 @@ use lib.Seq.{drop-drop}
 use Rattle.refusals.specs.declared.Refusal.{Refusal}
 use Rattle.refusals.specs.declared.Refusal.the-variants.{NoItem}
 use Rattle.capsule_header.specs.Header.{headerSize, body}
-use Rattle.capsule_rules.specs.Payload.{payloadRight}
-use Rattle.capsule_rules.specs.Body.{part, drivers, payloads, items, offset, itemEnd}
-use Rattle.capsule_rules.specs.Payload.{payloadAtRight, payloadsRight}
-use Rattle.capsule_rules.specs.Body.{item as itemBytes}
+use Rattle.capsule_payloads.specs.Payload.{payloadRight}
+use Rattle.capsule_body.specs.Body.{part, drivers, payloads, items, offset, itemEnd}
+use Rattle.capsule_payloads.specs.Payload.{payloadAtRight, payloadsRight}
+use Rattle.capsule_body.specs.Body.{item as itemBytes}
 use Rattle.capsule_header.proofs.Header.{header-in, body-length}
-use Rattle.capsule_rules.proofs.Body.{all-at, item-in}
+use Rattle.capsule_body.proofs.Body.{all-at, item-in}
 use Rattle.capsule_check.specs.Verdict.{unless, after, verdict, itemVerdict}
 use Rattle.capsule_check.specs.Item.{itemStartIn, itemEndIn, itemOf, found, located}
 use Rattle.capsule_check.specs.declared.Verdict.{Verdict}

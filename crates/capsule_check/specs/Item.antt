@@ -5,7 +5,7 @@ use mathlib.Core.Bool.{Bool, true, false}
 use mathlib.Core.List.{List}
 use lib.Dec.{ltb}
 use Rattle.capsule_header.specs.Header.{headerSize, body}
-use Rattle.capsule_rules.specs.Body.{drivers, offset, itemEnd}
+use Rattle.capsule_body.specs.Body.{drivers, offset, itemEnd}
 use Rattle.capsule_check.specs.Verdict.{itemVerdict}
 use Rattle.capsule_check.specs.declared.Verdict.{Verdict}
 use Rattle.capsule_check.specs.declared.Verdict.the-variants.{Faultless}

@@ -9,8 +9,8 @@ use Rattle.refusals.specs.declared.Refusal.{Refusal}
 use Rattle.refusals.specs.declared.Refusal.the-variants.{CapsuleShort, CapsuleSizes, CapsuleFlags, CapsuleGuid, CapsuleBody, CapsulePayload, NoItem}
 use Rattle.refusals.specs.Number.{numberOf}
 use Rattle.capsule_header.specs.Header.{headerLeast, sizesRight, flags, flagsRight, guidRight, body}
-use Rattle.capsule_rules.specs.Body.{items, bodyRight}
-use Rattle.capsule_rules.specs.Payload.{payloadsRight}
+use Rattle.capsule_body.specs.Body.{items, bodyRight}
+use Rattle.capsule_payloads.specs.Payload.{payloadsRight}
 use Rattle.capsule_check.specs.declared.Verdict.{Verdict}
 use Rattle.capsule_check.specs.declared.Verdict.the-variants.{Faultless, Refused}
 

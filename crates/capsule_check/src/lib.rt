@@ -1,14 +1,14 @@
 // The check of a whole capsule, and where an item of a faultless one lies.
 // It reads the header, the list of offsets and the payload headers and no byte of an image, so its cost does not grow with
 // the images' size.
+use capsule_body::body_right;
+use capsule_body::item_end;
+use capsule_body::item_start;
 use capsule_header::body_of;
 use capsule_header::flags_right;
 use capsule_header::guid_right;
 use capsule_header::sizes_right;
-use capsule_rules::body_right;
-use capsule_rules::item_end;
-use capsule_rules::item_start;
-use capsule_rules::payloads_right;
+use capsule_payloads::payloads_right;
 ghost use mathlib.Core.Path.{_≡_};
 ghost use Rattle.capsule_check.specs.Verdict.{verdict, verdictNumber};
 ghost use Rattle.capsule_check.specs.Item.{located};

@@ -83,8 +83,8 @@ pub fn told_of_item(w: &mut [u64; 256], m: &mut [u8]) {
 // The digest with the bytes of item k, of its image and of its vendor code, as the entries hand them out.
 fn with_parts(s: &[u8], k: usize, d: u64) -> u64 {
     let item = capsule::item(s, k);
-    let image = capsule::image(s, k);
-    let code = capsule::vendor_code(s, k);
+    let image = capsule_parts::image(s, k);
+    let code = capsule_parts::vendor_code(s, k);
     let x = digest_bytes(item, 0, item.len(), d);
     let y = digest_bytes(image, 0, image.len(), x);
     digest_bytes(code, 0, code.len(), y)

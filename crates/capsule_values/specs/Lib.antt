@@ -1,3 +1,2 @@
--- How many items a capsule has, and what is shown of an item. Assumes nothing.
-pub mod Count
+-- What is shown of an item. Assumes nothing.
 pub mod Shown

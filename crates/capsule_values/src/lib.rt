@@ -1,37 +1,12 @@
-// The values shown of a capsule: how many items of each kind it has, and a payload item's type GUID, image index and hardware instance.
-// Every entry checks the whole capsule first and has no condition: a refused one answers 0 or zeros, and `capsule::refusal` says which
-// refusal it was. Items are numbered from 0 in list order, drivers first.
+// The values shown of a payload item: its type GUID, image index and hardware instance. Every entry checks the whole capsule first and has no
+// condition: a refused one answers 0 or zeros, and `capsule::refusal` says which refusal it was. Items are numbered from 0 in list order, drivers
+// first.
 use capsule_check::Item;
-use capsule_check::Verdict;
-use capsule_header::body_of;
 ghost use mathlib.Core.Path.{_≡_};
 ghost use mathlib.Core.Bool.{true};
-ghost use Rattle.capsule_rules.specs.Payload.{payloadRight, imageIndex, hardwareInstance};
+ghost use Rattle.capsule_payloads.specs.Payload.{payloadRight, imageIndex, hardwareInstance};
 ghost use Rattle.capsule_check.specs.Item.{located};
-ghost use Rattle.capsule_values.specs.Count.{driverCount, payloadCount};
 ghost use Rattle.capsule_values.specs.Shown.{typeGuidOf, imageIndexOf, hardwareInstanceOf};
-
-// How many drivers a faultless capsule has. A refused one answers 0, and `check` says why.
-pub fn driver_count(s: &[u8]) -> usize
-    ensures { λ r. ⌜ r ≡ driverCount (now (s .entry)) ⌝ }
-{
-    let checked = capsule_check::check(s);
-    match checked {
-        Verdict::Faultless => fields::read16(body_of(s), 4) as usize,
-        Verdict::Refused(_) => 0,
-    }
-}
-
-// How many payloads, as above.
-pub fn payload_count(s: &[u8]) -> usize
-    ensures { λ r. ⌜ r ≡ payloadCount (now (s .entry)) ⌝ }
-{
-    let checked = capsule_check::check(s);
-    match checked {
-        Verdict::Faultless => fields::read16(body_of(s), 6) as usize,
-        Verdict::Refused(_) => 0,
-    }
-}
 
 // The type GUID of payload item k.
 pub fn type_guid(s: &[u8], k: usize) -> [u8; 16]

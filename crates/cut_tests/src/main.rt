@@ -1,23 +1,18 @@
 // Power cuts (document 01, "Power cuts"): each call of a change is cut after every number of its stores; after each cut the record is read and
 // a repair made, which is cut after every number of its stores too; and after each of these cuts another repair, cut in the same way. The
-// cases stand in the file stdin, a script for crate record_cases. A line a change: its stores, and what Tally counts (src/tally.rt).
-mod areas;
-mod tally;
-
-use areas::keep;
-use areas::move_record;
-use areas::restore;
-use areas::seen;
-use areas::settled;
-use areas::starts_right;
-use record_cases::cases;
-use record_cases::cases::Case;
-use record_cases::script;
-use record_cases::script::Line;
-use record_cases::shown;
+// cases stand in the file stdin, a script for crate record_cases. A line a change: its stores, and what Tally counts (crate cut_reads, src/tally.rt).
+use cut_reads::areas::keep;
+use cut_reads::areas::move_record;
+use cut_reads::areas::restore;
+use cut_reads::areas::seen;
+use cut_reads::areas::settled;
+use cut_reads::areas::starts_right;
+use cut_reads::tally;
+use cut_reads::tally::Tally;
+use record_cases::Case;
 use session::Answer;
-use tally::Tally;
 use test_areas::apply;
+use test_scripts::Line;
 
 // A read after a repair's cut: the same record as before, and if the repair has finished both copies sound and equal.
 fn read_again(a: &[u8], pair: &[u8], before: u32, finished: bool, t: Tally) -> Tally {
@@ -159,44 +154,44 @@ fn change(a: &mut [u8], list: &[u32], all: usize) -> Tally {
 }
 
 fn show_change(letter: u8, r: Answer, t: Tally) {
-    shown::text(b"\t");
-    shown::show_name(letter);
-    shown::text(b"\t");
-    shown::show_start(r);
-    shown::column(r.stores as u64);
+    test_scripts::text(b"\t");
+    record_shown::show_name(letter);
+    test_scripts::text(b"\t");
+    record_shown::show_start(r);
+    record_shown::column(r.stores as u64);
     tally::show(t);
-    shown::text(b"\n");
+    test_scripts::text(b"\n");
 }
 
 // The change that a line's call makes.
 fn simulate(case: Case, line: Line, a: &mut [u8]) {
     let session = case.session;
     let mut list = [0u32; 4200];
-    let r = cases::call(session, line, a, &mut list);
+    let r = record_cases::call(session, line, a, &mut list);
     let t = change(a, &list, r.stores);
     show_change(line.letter, r, t);
 }
 
 // A byte of the script behind a step: where it ends the step, that is done.
 fn read(case: Case, line: Line, b: u8, a: &mut [u8]) -> Case {
-    if !script::is_end(b) {
+    if !test_scripts::is_end(b) {
         return case;
     }
-    if cases::is_call(line.letter) {
+    if record_cases::is_call(line.letter) {
         simulate(case, line, a);
         return case;
     }
-    cases::step(case, line, a)
+    record_cases::step(case, line, a)
 }
 
 fn run(s: &[u8], a: &mut [u8]) {
-    let mut case = cases::first_case(false);
-    let mut line = script::empty();
+    let mut case = record_cases::first_case(false);
+    let mut line = test_scripts::empty();
     let mut i = 0;
     while i < s.len() {
         let b = s[i];
         case = read(case, line, b, a);
-        line = shown::read(line, b);
+        line = test_scripts::read(line, b);
         i += 1;
     }
 }

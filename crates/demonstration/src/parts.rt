@@ -1,8 +1,8 @@
 // Gathering the capsule, and its parts line by line.
 use capsule_check::Verdict;
 use gather::Gathered;
-use record_cases::shown::show_refusal;
-use record_cases::shown::text;
+use record_shown::show_refusal;
+use test_scripts::text;
 
 // The address of the window's first byte, and of the first descriptor.
 const BASE: u64 = 0x1000;
@@ -39,8 +39,11 @@ fn show_lengths(s: &[u8], k: usize) {
     text(b": ");
     show_verdict(capsule::refusal(s, k));
     named(b", length ", capsule::item(s, k).len() as u64);
-    named(b", image ", capsule::image(s, k).len() as u64);
-    named(b", vendor code ", capsule::vendor_code(s, k).len() as u64);
+    named(b", image ", capsule_parts::image(s, k).len() as u64);
+    named(
+        b", vendor code ",
+        capsule_parts::vendor_code(s, k).len() as u64,
+    );
 }
 
 // What is shown of it, and in lines of their own its image and its vendor code, which are text in the sample.
@@ -50,9 +53,9 @@ fn show_parts(s: &[u8], k: usize) {
     text(b", type GUID ");
     show_guid(capsule_values::type_guid(s, k));
     text(b"\n  image \"");
-    text(capsule::image(s, k));
+    text(capsule_parts::image(s, k));
     text(b"\", vendor code \"");
-    text(capsule::vendor_code(s, k));
+    text(capsule_parts::vendor_code(s, k));
     text(b"\"\n");
 }
 
@@ -63,8 +66,8 @@ fn show_item(s: &[u8], k: usize) {
 
 // A capsule of one driver and one payload; the answer is the payload's type GUID.
 fn show_capsule(s: &[u8]) -> [u8; 16] {
-    named(b"capsule: drivers ", capsule_values::driver_count(s) as u64);
-    named(b", payloads ", capsule_values::payload_count(s) as u64);
+    named(b"capsule: drivers ", capsule_counts::driver_count(s) as u64);
+    named(b", payloads ", capsule_counts::payload_count(s) as u64);
     text(b"\n");
     show_item(s, 0);
     show_item(s, 1);

@@ -1,13 +1,13 @@
 // One step of an update: the call, its stores done, and the line that is printed of it.
 use crate::parts::named;
-use record_cases::shown::show_name;
-use record_cases::shown::show_refusal;
-use record_cases::shown::show_start;
-use record_cases::shown::text;
+use record_shown::show_name;
+use record_shown::show_refusal;
+use record_shown::show_start;
 use session::Answer;
 use session::Session;
 use session::Verdict;
 use test_areas::apply;
+use test_scripts::text;
 
 // The first n bytes.
 fn show_front(t: &[u8], n: usize) {

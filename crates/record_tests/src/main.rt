@@ -5,5 +5,5 @@ fn main() {
     let n = io::read_full(0, &mut script);
     let mut area = [0u8; 16400];
     let mut out = [0u32; 4300];
-    record_cases::cases::run(&script[..n], &mut area, &mut out);
+    record_cases::run(&script[..n], &mut area, &mut out);
 }

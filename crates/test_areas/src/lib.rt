@@ -14,7 +14,7 @@ pub fn put8(a: &mut [u8], at: u32, v: u32) {
 pub fn put32(a: &mut [u8], at: u32, v: u32) {
     let k = at as usize;
     if k + 4 <= a.len() {
-        fields::write32(a, k, v);
+        field_writes::write32(a, k, v);
     }
 }
 

@@ -3,8 +3,8 @@ use mathlib.Core.Path.{_≡_, refl, sym, _∙_}
 use Rattle.capsule_check.specs.Item.{located}
 use Rattle.capsule_check.specs.declared.Item.the-variants.{Payload}
 use native.Mathlib.Omega.{arith}
-use Rattle.capsule_rules.specs.Body.{part}
-use Rattle.capsule.proofs.Parts.{Opened, opened}
+use Rattle.capsule_body.specs.Body.{part}
+use Rattle.capsule_parts.proofs.Parts.{Opened, opened}
 use borrow.Author.Needs.{needs}
 use Rattle.c_image.proofs.meanderpeg_capsule_image_start.Statement.{statement}
 use Rattle.c_image.proofs.meanderpeg_capsule_image_start.Tie as tie

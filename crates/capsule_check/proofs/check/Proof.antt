@@ -6,8 +6,8 @@ use borrow.Author.Tests.{le-leb, lt-leb, not-true, not-false}
 use lib.Dec.{leb}
 use lib.ListN.{length}
 use Rattle.capsule_header.specs.Header.{sizesRight, flags, flagsRight, guidRight, body}
-use Rattle.capsule_rules.specs.Body.{bodyRight}
-use Rattle.capsule_rules.specs.Payload.{payloadsRight}
+use Rattle.capsule_body.specs.Body.{bodyRight}
+use Rattle.capsule_payloads.specs.Payload.{payloadsRight}
 use Rattle.capsule_check.specs.Verdict.{verdict}
 use Rattle.capsule_check.proofs.check.Statement.{statement}
 use Rattle.capsule_check.proofs.check.Tie as tie

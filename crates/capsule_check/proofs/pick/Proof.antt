@@ -8,9 +8,9 @@ use native.Mathlib.Omega.{arith}
 use lib.ListN.{length}
 use Rattle.fields.specs.Number.{le}
 use Rattle.capsule_header.specs.Header.{headerSize, body}
-use Rattle.capsule_rules.specs.Body.{drivers, payloads, items, offset, itemEnd, bodyRight}
+use Rattle.capsule_body.specs.Body.{drivers, payloads, items, offset, itemEnd, bodyRight}
 use Rattle.capsule_header.proofs.Header.{header-in, body-length}
-use Rattle.capsule_rules.proofs.Body.{list-fits, few-items, item-in}
+use Rattle.capsule_body.proofs.Body.{list-fits, few-items, item-in}
 use Rattle.capsule_check.specs.Item.{itemStartIn, itemEndIn}
 use Rattle.capsule_check.specs.declared.Item.the-variants.{Driver, Payload}
 use Rattle.capsule_check.proofs.Faultless.{faultless, Sound}

@@ -4,8 +4,8 @@ use mathlib.Core.Path.{_≡_, sym, _∙_}
 use mathlib.Core.Bool.{true}
 use Prim.Native.Nat.{_≤_}
 use lib.ListN.{length}
-use Rattle.capsule_rules.specs.Body.{part}
-use Rattle.capsule_rules.specs.Payload.{payloadRight}
+use Rattle.capsule_body.specs.Body.{part}
+use Rattle.capsule_payloads.specs.Payload.{payloadRight}
 use Rattle.capsule_check.specs.Item.{located}
 use Rattle.capsule_check.specs.declared.Item.the-variants.{Payload}
 use Rattle.capsule_check.proofs.Places.{payload-inside, payload-holds}

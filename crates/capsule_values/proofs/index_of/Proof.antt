@@ -1,8 +1,8 @@
 -- `index_of` meets its contract: the header fits. Assumes nothing.
 use mathlib.Core.Path.{refl}
 use native.Mathlib.Omega.{arith}
-use Rattle.capsule_rules.specs.Payload.{imageIndex}
-use Rattle.capsule_rules.proofs.Payload.{first-header}
+use Rattle.capsule_payloads.specs.Payload.{imageIndex}
+use Rattle.capsule_payloads.proofs.Payload.{first-header}
 use Rattle.capsule_values.proofs.index_of.Statement.{statement}
 use Rattle.capsule_values.proofs.index_of.Tie as tie
 

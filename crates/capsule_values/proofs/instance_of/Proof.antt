@@ -3,8 +3,8 @@ use mathlib.Core.Path.{sym, _∙_}
 use native.Mathlib.Omega.{arith}
 use borrow.Author.Tests.{eq-eqb, ne-eqb}
 use Rattle.fields.specs.Number.{le}
-use Rattle.capsule_rules.specs.Payload.{version, hardwareInstance}
-use Rattle.capsule_rules.proofs.Payload.{first-header, second-header}
+use Rattle.capsule_payloads.specs.Payload.{version, hardwareInstance}
+use Rattle.capsule_payloads.proofs.Payload.{first-header, second-header}
 use Rattle.capsule_values.proofs.instance_of.Statement.{statement}
 use Rattle.capsule_values.proofs.instance_of.Tie as tie
 

@@ -5,9 +5,9 @@ use mathlib.Core.Bool.{true}
 use Prim.Native.Nat.{_≤_}
 use native.Mathlib.Omega.{arith}
 use lib.ListN.{length}
-use Rattle.capsule_rules.specs.Body.{part}
-use Rattle.capsule_rules.specs.Payload.{payloadRight, typeGuid}
-use Rattle.capsule_rules.proofs.Payload.{first-header}
+use Rattle.capsule_body.specs.Body.{part}
+use Rattle.capsule_payloads.specs.Payload.{payloadRight, typeGuid}
+use Rattle.capsule_payloads.proofs.Payload.{first-header}
 use Rattle.capsule_check.specs.Item.{located}
 use Rattle.capsule_check.specs.declared.Item.the-variants.{Payload}
 use Rattle.capsule_check.proofs.Places.{payload-inside, payload-holds}

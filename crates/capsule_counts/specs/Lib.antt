@@ -1,0 +1,2 @@
+-- How many items a capsule has. Assumes nothing.
+pub mod Count

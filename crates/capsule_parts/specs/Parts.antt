@@ -1,0 +1,22 @@
+-- The parts of a capsule s that are handed out for what an item holds (document 01, "The capsule"). An `Item` says where the item lies,
+-- from byte a of the capsule up to, not including, byte e, or the refusal. Assumes nothing.
+use Prim.Native.Nat.{ℕ, _+_}
+use mathlib.Core.List.{List}
+use Rattle.capsule_body.specs.Body.{part}
+use Rattle.capsule_payloads.specs.Payload.{imageStart, imageEnd, vendorCodeEnd}
+use Rattle.capsule_check.specs.declared.Item.{Item}
+use Rattle.capsule_check.specs.declared.Item.the-variants.{Driver, Payload, Refused}
+use Rattle.capsule.specs.Parts.{Range, range, emptyAtStart}
+
+-- "the whole item for a driver, the image and the vendor code for a payload": a driver's image is its whole item
+-- (docs/DECISIONS.md, C1). "32 or 40 bytes, then the image"
+abbrev pub imagePart : List ℕ → Item → Range
+imagePart s (Driver a e) = range a e
+imagePart s (Payload a e) = range (a + imageStart (part s a e)) (a + imageEnd (part s a e))
+imagePart s (Refused r) = emptyAtStart
+
+-- "A driver's vendor code is the empty part at its item's end." Of a payload: "the image, then the vendor code"
+abbrev pub vendorCodePart : List ℕ → Item → Range
+vendorCodePart s (Driver a e) = range e e
+vendorCodePart s (Payload a e) = range (a + imageEnd (part s a e)) (a + vendorCodeEnd (part s a e))
+vendorCodePart s (Refused r) = emptyAtStart
