@@ -5,12 +5,11 @@ use changes::find_image;
 use changes::update_bank;
 use committed_set::missing_images;
 use committed_set::staged;
-use copies::COPY;
 use fields::read16;
 use fields::read32;
 use gates::Gate;
 use gates::admit_area;
-use record::record_in;
+use record::record_in_copy0;
 use refusals::Refusal;
 ghost use mathlib.Core.Path.{_≡_};
 ghost use mathlib.Core.Bool.{true};
@@ -38,7 +37,7 @@ fn held_record(area: &[u8]) -> &[u8]
     requires { ⌜ Held (now area) ⌝ }
     ensures { λ r. ⌜ (now r ≡ recordOf (copy0 (now (area .entry)))) × (sound (now r) ≡ true) ⌝ }
 {
-    record_in(&area[0..COPY])
+    record_in_copy0(area)
 }
 
 // `staged`, of the record that both copies hold. The functions that end in `_in` read that record.

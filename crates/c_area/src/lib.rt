@@ -1,7 +1,7 @@
 // The way in from C and Rust (include/meanderpeg.h): what an area holds. A slice passes as a pointer and a length, a number behind a
 // reference as a pointer. A refusal leaves what was lent as it was.
-use copies::AREA;
-use copies::COPY;
+use record::AREA;
+use record::COPY;
 ghost use mathlib.Core.Path.{_≡_};
 ghost use lib.ListN.{length};
 ghost use Rattle.sheet.specs.Sheet.{sheetIn};

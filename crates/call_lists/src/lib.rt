@@ -6,8 +6,7 @@ use call_alterations::commit_alteration;
 use call_alterations::end_alteration;
 use call_alterations::exchange_alteration;
 use change_lists::list_change;
-use copies::COPY;
-use record::record_in;
+use record::record_in_copy0;
 ghost use Prim.Native.Nat.{_<_};
 ghost use Rattle.record.specs.Layout.{imageCount, recordOf, copy0};
 ghost use Rattle.alterations.specs.Altered.{Changeable, Listed};
@@ -19,7 +18,7 @@ pub fn list_begin(area: &[u8], out: &mut [u32]) -> usize
     requires { ⌜ Changeable (now area) (now out) ⌝ }
     ensures { λ n. ⌜ Listed n (changeStores (now (area .entry)) (begunRecord (recordOf (copy0 (now (area .entry)))))) (now (out .entry)) (now (out .exit)) ⌝ }
 {
-    let x = begin_alteration(record_in(&area[0..COPY]));
+    let x = begin_alteration(record_in_copy0(area));
     list_change(area, x, out)
 }
 
@@ -28,7 +27,7 @@ pub fn list_commit(area: &[u8], i: usize, request: u32, out: &mut [u32]) -> usiz
     requires { ⌜ Changeable (now area) (now out) × (i < imageCount (recordOf (copy0 (now area)))) ⌝ }
     ensures { λ n. ⌜ Listed n (changeStores (now (area .entry)) (committedRecord i request (recordOf (copy0 (now (area .entry)))))) (now (out .entry)) (now (out .exit)) ⌝ }
 {
-    let x = commit_alteration(record_in(&area[0..COPY]), i, request);
+    let x = commit_alteration(record_in_copy0(area), i, request);
     list_change(area, x, out)
 }
 
@@ -37,7 +36,7 @@ pub fn list_end(area: &[u8], out: &mut [u32]) -> usize
     requires { ⌜ Changeable (now area) (now out) ⌝ }
     ensures { λ n. ⌜ Listed n (changeStores (now (area .entry)) (endedRecord (recordOf (copy0 (now (area .entry)))))) (now (out .entry)) (now (out .exit)) ⌝ }
 {
-    let x = end_alteration(record_in(&area[0..COPY]));
+    let x = end_alteration(record_in_copy0(area));
     list_change(area, x, out)
 }
 
@@ -46,7 +45,7 @@ pub fn list_accept(area: &[u8], i: usize, out: &mut [u32]) -> usize
     requires { ⌜ Changeable (now area) (now out) × (i < imageCount (recordOf (copy0 (now area)))) ⌝ }
     ensures { λ n. ⌜ Listed n (changeStores (now (area .entry)) (acceptedRecord i (recordOf (copy0 (now (area .entry)))))) (now (out .entry)) (now (out .exit)) ⌝ }
 {
-    let x = accept_alteration(record_in(&area[0..COPY]), i);
+    let x = accept_alteration(record_in_copy0(area), i);
     list_change(area, x, out)
 }
 
@@ -55,6 +54,6 @@ pub fn list_exchange(area: &[u8], out: &mut [u32]) -> usize
     requires { ⌜ Changeable (now area) (now out) ⌝ }
     ensures { λ n. ⌜ Listed n (changeStores (now (area .entry)) (exchangedRecord (recordOf (copy0 (now (area .entry)))))) (now (out .entry)) (now (out .exit)) ⌝ }
 {
-    let x = exchange_alteration(record_in(&area[0..COPY]));
+    let x = exchange_alteration(record_in_copy0(area));
     list_change(area, x, out)
 }

@@ -4,10 +4,10 @@ use alterations::Alteration;
 use alterations::new_crc;
 use alterations::new_word;
 use alterations::unchanged;
-use copies::AREA;
-use copies::COPY;
 use fields::read32;
-use record::record_in;
+use record::AREA;
+use record::COPY;
+use record::record_in_copy0;
 use stores::put_differing;
 use stores::put_pair;
 ghost use mathlib.Core.Path.{_≡_};
@@ -77,7 +77,7 @@ pub fn list_change(area: &[u8], x: Alteration, out: &mut [u32]) -> usize
     requires { ⌜ Changeable (now area) (now out) × Within x (recordOf (copy0 (now area))) ⌝ }
     ensures { λ n. ⌜ Listed n (changeStores (now (area .entry)) (newRecord x (recordOf (copy0 (now (area .entry)))))) (now (out .entry)) (now (out .exit)) ⌝ }
 {
-    let r = record_in(&area[0..COPY]);
+    let r = record_in_copy0(area);
     let banks = r[32] as usize;
     let crc = new_crc(r, banks, x);
     if unchanged(r, banks, x, crc) {

@@ -1,5 +1,8 @@
 // The two copies of the record in an area (document 01, "The record"): which is read, and whether they are equal.
-use record::record_in;
+use record::AREA;
+use record::COPY;
+use record::record_in_copy0;
+use record::record_in_copy1;
 use soundness::sound_copy;
 ghost use mathlib.Core.Path.{_≡_};
 ghost use Prim.Native.Nat.{_≤_};
@@ -7,11 +10,6 @@ ghost use lib.ListN.{length};
 ghost use Rattle.fields.specs.Guid.{same};
 ghost use Rattle.copies.specs.Copies.{sourceOf, recordsEqual, soundAndEqual};
 ghost use Rattle.copies.specs.declared.Source.the-variants.{Copy0};
-
-// The sizes of an area and of a copy.
-pub const AREA: usize = 16384;
-
-pub const COPY: usize = 8192;
 
 // The copy that is read.
 pub enum Source {
@@ -57,7 +55,7 @@ pub fn records_equal(area: &[u8]) -> bool
     requires { ⌜ length (now area) ≡ 16384 ⌝ }
     ensures { λ b. ⌜ b ≡ recordsEqual (now (area .entry)) ⌝ }
 {
-    same_bytes(record_in(&area[0..COPY]), record_in(&area[COPY..AREA]))
+    same_bytes(record_in_copy0(area), record_in_copy1(area))
 }
 
 // Whether copy 1 is sound too, and its record the same as that of copy 0, which is sound.

@@ -1,9 +1,9 @@
 // What a call tests before it looks at its session (document 01, "When the bench says no"): 20, 23, 21 and 22. And what a test or a
 // call's own line leads to, with no session.
-use copies::AREA;
 use copies::Source;
 use copies::read_source;
 use copies::second_agrees;
+use record::AREA;
 use refusals::Refusal;
 use stores::STORE_NUMBERS;
 ghost use mathlib.Core.Path.{_≡_};

@@ -1,12 +1,16 @@
-// The record's layout (document 01, "The record"): the record in a copy, and where an image's entry stands in it. A record is a slice of the
-// area's own bytes; nothing is copied. The rules are defined here, and tested in the crates above.
+// The record's layout (document 01, "The record"): the record in a copy and in each copy of an area, and where an image's entry stands in it. A
+// record is a slice of the area's own bytes; nothing is copied. The rules are defined here, and tested in the crates above.
 use fields::read32;
 ghost use mathlib.Core.Path.{_≡_};
 ghost use Prim.Native.Nat.{_≤_};
 ghost use lib.ListN.{length};
-ghost use Rattle.record.specs.Layout.{recordOf, entryAt};
+ghost use Rattle.record.specs.Layout.{copy0, copy1, recordOf, entryAt};
 
-// The header's length.
+// The lengths of an area, of a copy and of a record's header.
+pub const AREA: usize = 16384;
+
+pub const COPY: usize = 8192;
+
 pub const HEADER: usize = 40;
 
 // The record in a copy: as many bytes as its size says, and the header in any case.
@@ -22,6 +26,22 @@ pub fn record_in(c: &[u8]) -> &[u8]
         return c;
     }
     &c[0..n]
+}
+
+// The record in copy 0 of an area.
+pub fn record_in_copy0(area: &[u8]) -> &[u8]
+    requires { ⌜ length (now area) ≡ 16384 ⌝ }
+    ensures { λ r. ⌜ now r ≡ recordOf (copy0 (now (area .entry))) ⌝ }
+{
+    record_in(&area[0..COPY])
+}
+
+// The record in copy 1.
+pub fn record_in_copy1(area: &[u8]) -> &[u8]
+    requires { ⌜ length (now area) ≡ 16384 ⌝ }
+    ensures { λ r. ⌜ now r ≡ recordOf (copy1 (now (area .entry))) ⌝ }
+{
+    record_in(&area[COPY..AREA])
 }
 
 // The offset of the entry of image i.

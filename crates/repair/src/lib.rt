@@ -1,10 +1,11 @@
 // Repair (document 01, "Session and calls"): the stores that put the record read into the other copy. Refusals 20, 23, 21.
-use copies::AREA;
-use copies::COPY;
 use copies::Source;
 use copies::read_source;
 use copies::second_agrees;
-use record::record_in;
+use record::AREA;
+use record::COPY;
+use record::record_in_copy0;
+use record::record_in_copy1;
 use refusals::Refusal;
 use session::Answer;
 use session::Session;
@@ -27,7 +28,7 @@ fn repair_second(area: &[u8], out: &mut [u32]) -> Answer
     if second_agrees(area) {
         return Answer::accepted(Session::Restart, 0);
     }
-    let r = record_in(&area[0..COPY]);
+    let r = record_in_copy0(area);
     let n = list_copy(&area[COPY..AREA], r, 8192, out, 0);
     Answer::accepted(Session::Restart, n)
 }
@@ -37,7 +38,7 @@ fn repair_first(area: &[u8], out: &mut [u32]) -> Answer
     requires { ⌜ (length (now area) ≡ 16384) × (4200 ≤ length (now out)) × (sourceOf (now area) ≡ Copy1) ⌝ }
     ensures { λ r. ⌜ (outcomeOf r, now (out .exit)) ≡ repairedAt Copy1 (now (area .entry)) (now (out .entry)) ⌝ }
 {
-    let r = record_in(&area[COPY..AREA]);
+    let r = record_in_copy1(area);
     let n = list_copy(&area[0..COPY], r, 0, out, 0);
     Answer::accepted(Session::Restart, n)
 }

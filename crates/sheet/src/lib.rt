@@ -1,9 +1,9 @@
 // The bench sheet (document 01, "The bench sheet"): an area's record as lines of text, in a lent slice.
-use copies::AREA;
-use copies::COPY;
 use copies::Source;
 use copies::read_source;
-use record::record_in;
+use record::AREA;
+use record::record_in_copy0;
+use record::record_in_copy1;
 use refusals::Refusal;
 use sheet_lines::record_lines;
 use text::line_of_one;
@@ -35,8 +35,8 @@ pub fn sheet(area: &[u8], out: &mut [u8]) -> usize
     }
     let from = read_source(area);
     match from {
-        Source::Copy0 => record_lines(out, 0, record_in(&area[0..COPY])),
-        Source::Copy1 => record_lines(out, 1, record_in(&area[COPY..AREA])),
+        Source::Copy0 => record_lines(out, 0, record_in_copy0(area)),
+        Source::Copy1 => record_lines(out, 1, record_in_copy1(area)),
         Source::Neither => refused_line(out, Refusal::NoSoundCopy),
     }
 }

@@ -1,10 +1,10 @@
 // Start-up (document 01, "Session and calls"): the session that an area and the booted bank give. Refusals 20, 21, 28.
-use copies::AREA;
-use copies::COPY;
 use copies::Source;
 use copies::read_source;
 use fields::read32;
-use record::record_in;
+use record::AREA;
+use record::record_in_copy0;
+use record::record_in_copy1;
 use refusals::Refusal;
 use session::Answer;
 use session::Session;
@@ -43,8 +43,8 @@ pub fn start_up(area: &[u8], booted: u32) -> Answer
     }
     let from = read_source(area);
     match from {
-        Source::Copy0 => started(record_in(&area[0..COPY]), booted),
-        Source::Copy1 => started(record_in(&area[COPY..AREA]), booted),
+        Source::Copy0 => started(record_in_copy0(area), booted),
+        Source::Copy1 => started(record_in_copy1(area), booted),
         Source::Neither => Answer::refused(Session::Restart, Refusal::NoSoundCopy),
     }
 }

@@ -11,26 +11,17 @@ use Rattle.change_lists.proofs.Listing.{alterable, listed-none, stores-
 use Rattle.change_lists.proofs.list_change.Statement.{statement}
 use Rattle.change_lists.proofs.list_change.Tie as tie
 
-sub-record-in : tie.Need-sub-record-in
-sub-record-in c = search needs
-
-part-record-in-start : tie.Need-part-record-in-start
-part-record-in-start c = search needs
-
-part-record-in-end : tie.Need-part-record-in-end
-part-record-in-end c = search needs
-
-record-in-requires : tie.Need-record-in-requires
-record-in-requires c κs = search needs
+record-in-copy0-requires : tie.Need-record-in-copy0-requires
+record-in-copy0-requires c κs = search needs
 
 shared-slice-read-banks : tie.Need-shared-slice-read-banks
 shared-slice-read-banks c =
     let rd = c .before in
-    let s = rd .before .before .before .before in
+    let s = rd .before .before .before in
     let a = s .args in
     let A = a .area .now in
-    let R = rd .record-in .result .now in
-    let e : R ≡ recordOf (copy0 A) = rd .record-in .ensures in
+    let R = rd .record-in-copy0 .result .now in
+    let e : R ≡ recordOf (copy0 A) = rd .record-in-copy0 .ensures in
     let h : 40 ≤ length R = rw e (record-long (copy0 A) (rw (length-take-le 8192 A (omega (arith, s .pre .0 .long))) (omega arith))) in
     omega (arith, h)
 
@@ -40,43 +31,43 @@ cast-banks c = omega (arith, c .shared-slice-known2 .given 32)
 new-crc-requires : tie.Need-new-crc-requires
 new-crc-requires c κs =
     let rd = c .before in
-    let s = rd .before .before .before .before in
+    let s = rd .before .before .before in
     let a = s .args in
     let A = a .area .now in
-    let R = rd .record-in .result .now in
-    let e : R ≡ recordOf (copy0 A) = rd .record-in .ensures in
+    let R = rd .record-in-copy0 .result .now in
+    let e : R ≡ recordOf (copy0 A) = rd .record-in-copy0 .ensures in
     alterable (a .x) A (a .out .now) R e (s .pre .0) (s .pre .1)
 
 unchanged-requires : tie.Need-unchanged-requires
 unchanged-requires c κs =
     let rd = c .before .before in
-    let s = rd .before .before .before .before in
+    let s = rd .before .before .before in
     let a = s .args in
     let A = a .area .now in
-    let R = rd .record-in .result .now in
-    let e : R ≡ recordOf (copy0 A) = rd .record-in .ensures in
+    let R = rd .record-in-copy0 .result .now in
+    let e : R ≡ recordOf (copy0 A) = rd .record-in-copy0 .ensures in
     (alterable (a .x) A (a .out .now) R e (s .pre .0) (s .pre .1), c .new-crc .ensures)
 
 returns : tie.Need-returns
 returns c =
     let u = c .before in
     let rd = u .before .before .before in
-    let s = rd .before .before .before .before in
+    let s = rd .before .before .before in
     let a = s .args in
     let A = a .area .now in
-    let R = rd .record-in .result .now in
-    let e : R ≡ recordOf (copy0 A) = rd .record-in .ensures in
+    let R = rd .record-in-copy0 .result .now in
+    let e : R ≡ recordOf (copy0 A) = rd .record-in-copy0 .ensures in
     listed-none (a .x) A (a .out .now) R e (s .pre .0) (s .pre .1) (sym (c .if1 .taken) ∙ u .unchanged .ensures)
 
 put-both-requires : tie.Need-put-both-requires
 put-both-requires c κs =
     let n = c .before .before .before in
     let rd = n .before .before in
-    let s = rd .before .before .before .before in
+    let s = rd .before .before .before in
     let a = s .args in
     let A = a .area .now in
-    let R = rd .record-in .result .now in
-    let e : R ≡ recordOf (copy0 A) = rd .record-in .ensures in
+    let R = rd .record-in-copy0 .result .now in
+    let e : R ≡ recordOf (copy0 A) = rd .record-in-copy0 .ensures in
     (alterable (a .x) A (a .out .now) R e (s .pre .0) (s .pre .1), n .new-crc .ensures, s .pre .0 .long, s .pre .0 .room)
 
 same-length : tie.Need-same-length
@@ -88,21 +79,18 @@ returns-2 c =
     let i = q .before .before in
     let u = i .before in
     let rd = u .before .before .before in
-    let s = rd .before .before .before .before in
+    let s = rd .before .before .before in
     let a = s .args in
     let A = a .area .now in
-    let R = rd .record-in .result .now in
-    let e : R ≡ recordOf (copy0 A) = rd .record-in .ensures in
+    let R = rd .record-in-copy0 .result .now in
+    let e : R ≡ recordOf (copy0 A) = rd .record-in-copy0 .ensures in
     rw (stores-both (a .x) A (a .out .now) R e (s .pre .0) (s .pre .1) (sym (i .if1 .left) ∙ u .unchanged .ensures)) (q .put-both .ensures)
 
 pub list-change-spec : {M : Type 1} → statement M
 list-change-spec =
     tie.close
     (tie.spec
-    sub-record-in
-    part-record-in-start
-    part-record-in-end
-    record-in-requires
+    record-in-copy0-requires
     shared-slice-read-banks
     cast-banks
     new-crc-requires

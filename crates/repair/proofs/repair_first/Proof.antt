@@ -14,17 +14,8 @@ use Rattle.record.specs.Layout.{copySize, recordOf, copy0, copy1}
 use Rattle.repair.proofs.repair_first.Statement.{statement}
 use Rattle.repair.proofs.repair_first.Tie as tie
 
-sub-record-in : tie.Need-sub-record-in
-sub-record-in c = search needs
-
-part-record-in-start : tie.Need-part-record-in-start
-part-record-in-start c = search needs
-
-part-record-in-end : tie.Need-part-record-in-end
-part-record-in-end c = search needs
-
-record-in-requires : tie.Need-record-in-requires
-record-in-requires c κs = search needs
+record-in-copy1-requires : tie.Need-record-in-copy1-requires
+record-in-copy1-requires c κs = search needs
 
 sub-list-copy : tie.Need-sub-list-copy
 sub-list-copy c = search needs
@@ -38,9 +29,9 @@ part-list-copy-end c = search needs
 list-copy-requires : tie.Need-list-copy-requires
 list-copy-requires c κs =
     let rd = c .before .before in
-    let s = rd .before .before .before .before in
+    let s = rd .before .before .before in
     let a = s .args .area .now in
-    rw (rd .record-in .ensures)
+    rw (rd .record-in-copy1 .ensures)
     (listable (copy0 a) (recordOf (copy1 a)) 0 (length (s .args .out .now)) (from-copy1 a (s .pre .2)) (length-take-le 8192 a (omega arith)) (omega arith) (s .pre .1))
 
 accepted-requires : tie.Need-accepted-requires
@@ -53,20 +44,17 @@ returns : tie.Need-returns
 returns c =
     let lc = c .before .before .before in
     let rd = lc .before .before .before in
-    let s = rd .before .before .before .before in
+    let s = rd .before .before .before in
     let a = s .args .area .now in
     let p : Added 0 (lc .list-copy .result) (plan 0 (copy0 a) (recordOf (copy1 a))) (s .args .out .now) (lc .list-copy .last .1 .1 .1 .0) =
-    rw (← rd .record-in .ensures) (lc .list-copy .ensures) in
+    rw (← rd .record-in-copy1 .ensures) (lc .list-copy .ensures) in
     rw (c .accepted .ensures) (into-first a (s .args .out .now) (lc .list-copy .last .1 .1 .1 .0) (lc .list-copy .result) p)
 
 pub repair-first-spec : {M : Type 1} → statement M
 repair-first-spec =
     tie.close
     (tie.spec
-    sub-record-in
-    part-record-in-start
-    part-record-in-end
-    record-in-requires
+    record-in-copy1-requires
     sub-list-copy
     part-list-copy-start
     part-list-copy-end

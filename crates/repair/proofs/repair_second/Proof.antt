@@ -26,17 +26,8 @@ returns c =
     let s = t .before .before .before .before in
     rw (c .accepted .ensures) (nothing-to-do (s .args .area .now) (s .args .out .now) (sym (t .before .second-agrees .ensures) ∙ t .if1 .taken))
 
-sub-record-in : tie.Need-sub-record-in
-sub-record-in c = search needs
-
-part-record-in-start : tie.Need-part-record-in-start
-part-record-in-start c = search needs
-
-part-record-in-end : tie.Need-part-record-in-end
-part-record-in-end c = search needs
-
-record-in-requires : tie.Need-record-in-requires
-record-in-requires c κs = search needs
+record-in-copy0-requires : tie.Need-record-in-copy0-requires
+record-in-copy0-requires c κs = search needs
 
 sub-list-copy : tie.Need-sub-list-copy
 sub-list-copy c = search needs
@@ -50,9 +41,9 @@ part-list-copy-end c = search needs
 list-copy-requires : tie.Need-list-copy-requires
 list-copy-requires c κs =
     let rd = c .before .before in
-    let s = rd .before .before .before .before .before .before in
+    let s = rd .before .before .before .before .before in
     let a = s .args .area .now in
-    rw (rd .record-in .ensures)
+    rw (rd .record-in-copy0 .ensures)
     (listable (copy1 a) (recordOf (copy0 a)) copySize (length (s .args .out .now)) (from-copy0 a (s .pre .2))
     (length-take-le 8192 (drop 8192 a) (rw length-drop (omega arith))) (omega arith) (s .pre .1))
 
@@ -66,11 +57,11 @@ returns-2 : tie.Need-returns-2
 returns-2 c =
     let lc = c .before .before .before in
     let rd = lc .before .before .before in
-    let t = rd .before .before in
+    let t = rd .before in
     let s = t .before .before .before .before in
     let a = s .args .area .now in
     let p : Added 0 (lc .list-copy .result) (plan copySize (copy1 a) (recordOf (copy0 a))) (s .args .out .now) (lc .list-copy .last .1 .1 .1 .0) =
-    rw (← rd .record-in .ensures) (lc .list-copy .ensures) in
+    rw (← rd .record-in-copy0 .ensures) (lc .list-copy .ensures) in
     rw (c .accepted2 .ensures)
     (into-second a (s .args .out .now) (lc .list-copy .last .1 .1 .1 .0) (lc .list-copy .result) (sym (t .before .second-agrees .ensures) ∙ t .if1 .left) p)
 
@@ -81,10 +72,7 @@ repair-second-spec =
     second-agrees-requires
     accepted-requires
     returns
-    sub-record-in
-    part-record-in-start
-    part-record-in-end
-    record-in-requires
+    record-in-copy0-requires
     sub-list-copy
     part-list-copy-start
     part-list-copy-end

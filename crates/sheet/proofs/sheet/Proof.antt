@@ -39,50 +39,32 @@ read-source-requires c κs = search needs
 enum-told : tie.Need-enum-told
 enum-told c = search needs
 
-sub-record-in : tie.Need-sub-record-in
-sub-record-in c = search needs
-
-part-record-in-start : tie.Need-part-record-in-start
-part-record-in-start c = search needs
-
-part-record-in-end : tie.Need-part-record-in-end
-part-record-in-end c = search needs
-
-record-in-requires : tie.Need-record-in-requires
-record-in-requires c κs = search needs
+record-in-copy0-requires : tie.Need-record-in-copy0-requires
+record-in-copy0-requires c κs = search needs
 
 record-lines-requires : tie.Need-record-lines-requires
 record-lines-requires c κs =
-    let t = c .before .before .before in
+    let t = c .before .before in
     let m = t .before .before in
     let s = m .before .before .before .before .before in
     let a = s .args .area .now in
     let h = from-copy0 a (sym (m .read-source .ensures) ∙ t .enum-told .given .1) in
-    rw (c .record-in .ensures) (h, record-room (recordOf (copy0 a)) h 0 (s .args .out .now) (omega arith) (m .before .before .if1 .left))
+    rw (c .record-in-copy0 .ensures) (h, record-room (recordOf (copy0 a)) h 0 (s .args .out .now) (omega arith) (m .before .before .if1 .left))
 
 enum-told-2 : tie.Need-enum-told-2
 enum-told-2 c = search needs
 
-sub-record-in-2 : tie.Need-sub-record-in-2
-sub-record-in-2 c = search needs
-
-part-record-in-start-2 : tie.Need-part-record-in-start-2
-part-record-in-start-2 c = search needs
-
-part-record-in-end-2 : tie.Need-part-record-in-end-2
-part-record-in-end-2 c = search needs
-
-record-in-requires-2 : tie.Need-record-in-requires-2
-record-in-requires-2 c κs = search needs
+record-in-copy1-requires : tie.Need-record-in-copy1-requires
+record-in-copy1-requires c κs = search needs
 
 record-lines-requires-2 : tie.Need-record-lines-requires-2
 record-lines-requires-2 c κs =
-    let t = c .before .before .before in
+    let t = c .before .before in
     let m = t .before .before in
     let s = m .before .before .before .before .before in
     let a = s .args .area .now in
     let h = from-copy1 a (sym (m .read-source .ensures) ∙ t .enum-told2 .given .1) in
-    rw (c .record-in2 .ensures) (h, record-room (recordOf (copy1 a)) h 1 (s .args .out .now) (omega arith) (m .before .before .if1 .left))
+    rw (c .record-in-copy1 .ensures) (h, record-room (recordOf (copy1 a)) h 1 (s .args .out .now) (omega arith) (m .before .before .if1 .left))
 
 enum-told-3 : tie.Need-enum-told-3
 enum-told-3 c = search needs
@@ -99,13 +81,13 @@ same-length-2 c = search needs
 returns-3 : tie.Need-returns-3
 returns-3 c =
     let p = c .before .before in
-    let t = p .before .before .before .before in
+    let t = p .before .before .before in
     let m = t .before .before in
     let s = m .before .before .before .before .before in
     let a = s .args .area .now in
     sheet-is a (recordLines 0 (recordOf (copy0 a))) (s .args .out .now) (p .record-lines .last .0) (p .record-lines .result) (m .before .before .if1 .left)
     (sheet-copy0 a (m .before .if2 .left) (sym (m .read-source .ensures) ∙ t .enum-told .given .1))
-    (rw (← p .before .record-in .ensures) (p .record-lines .ensures))
+    (rw (← p .before .record-in-copy0 .ensures) (p .record-lines .ensures))
 
 same-length-3 : tie.Need-same-length-3
 same-length-3 c = search needs
@@ -113,13 +95,13 @@ same-length-3 c = search needs
 returns-4 : tie.Need-returns-4
 returns-4 c =
     let p = c .before .before in
-    let t = p .before .before .before .before in
+    let t = p .before .before .before in
     let m = t .before .before in
     let s = m .before .before .before .before .before in
     let a = s .args .area .now in
     sheet-is a (recordLines 1 (recordOf (copy1 a))) (s .args .out .now) (p .record-lines2 .last .0) (p .record-lines2 .result) (m .before .before .if1 .left)
     (sheet-copy1 a (m .before .if2 .left) (sym (m .read-source .ensures) ∙ t .enum-told2 .given .1))
-    (rw (← p .before .record-in2 .ensures) (p .record-lines2 .ensures))
+    (rw (← p .before .record-in-copy1 .ensures) (p .record-lines2 .ensures))
 
 same-length-4 : tie.Need-same-length-4
 same-length-4 c = search needs
@@ -144,16 +126,10 @@ sheet-spec =
     returns-2
     read-source-requires
     enum-told
-    sub-record-in
-    part-record-in-start
-    part-record-in-end
-    record-in-requires
+    record-in-copy0-requires
     record-lines-requires
     enum-told-2
-    sub-record-in-2
-    part-record-in-start-2
-    part-record-in-end-2
-    record-in-requires-2
+    record-in-copy1-requires
     record-lines-requires-2
     enum-told-3
     refused-line-requires-2

@@ -22,46 +22,28 @@ read-source-requires c κs = search needs
 enum-told : tie.Need-enum-told
 enum-told c = search needs
 
-sub-record-in : tie.Need-sub-record-in
-sub-record-in c = search needs
-
-part-record-in-start : tie.Need-part-record-in-start
-part-record-in-start c = search needs
-
-part-record-in-end : tie.Need-part-record-in-end
-part-record-in-end c = search needs
-
-record-in-requires : tie.Need-record-in-requires
-record-in-requires c κs = search needs
+record-in-copy0-requires : tie.Need-record-in-copy0-requires
+record-in-copy0-requires c κs = search needs
 
 started-requires : tie.Need-started-requires
 started-requires c κs =
-    let t = c .before .before in
+    let t = c .before in
     let m = t .before .before in
     let a = m .before .before .before .args .area .now in
-    rw (c .record-in .ensures) (from-copy0 a (sym (m .read-source .ensures) ∙ t .enum-told .given .1))
+    rw (c .record-in-copy0 .ensures) (from-copy0 a (sym (m .read-source .ensures) ∙ t .enum-told .given .1))
 
 enum-told-2 : tie.Need-enum-told-2
 enum-told-2 c = search needs
 
-sub-record-in-2 : tie.Need-sub-record-in-2
-sub-record-in-2 c = search needs
-
-part-record-in-start-2 : tie.Need-part-record-in-start-2
-part-record-in-start-2 c = search needs
-
-part-record-in-end-2 : tie.Need-part-record-in-end-2
-part-record-in-end-2 c = search needs
-
-record-in-requires-2 : tie.Need-record-in-requires-2
-record-in-requires-2 c κs = search needs
+record-in-copy1-requires : tie.Need-record-in-copy1-requires
+record-in-copy1-requires c κs = search needs
 
 started-requires-2 : tie.Need-started-requires-2
 started-requires-2 c κs =
-    let t = c .before .before in
+    let t = c .before in
     let m = t .before .before in
     let a = m .before .before .before .args .area .now in
-    rw (c .record-in2 .ensures) (from-copy1 a (sym (m .read-source .ensures) ∙ t .enum-told2 .given .1))
+    rw (c .record-in-copy1 .ensures) (from-copy1 a (sym (m .read-source .ensures) ∙ t .enum-told2 .given .1))
 
 enum-told-3 : tie.Need-enum-told-3
 enum-told-3 c = search needs
@@ -72,16 +54,16 @@ refused-requires-2 c κs = search needs
 returns-2 : tie.Need-returns-2
 unfolding startUp startedAt readFrom
 returns-2 c =
-    let t = c .before .before .before in
+    let t = c .before .before in
     let m = t .before .before in
-    rw (eq-eqb _ _ (m .before .if1 .left), sym (m .read-source .ensures) ∙ t .enum-told .given .1, ← c .before .record-in .ensures) (c .started .ensures)
+    rw (eq-eqb _ _ (m .before .if1 .left), sym (m .read-source .ensures) ∙ t .enum-told .given .1, ← c .before .record-in-copy0 .ensures) (c .started .ensures)
 
 returns-3 : tie.Need-returns-3
 unfolding startUp startedAt readFrom
 returns-3 c =
-    let t = c .before .before .before in
+    let t = c .before .before in
     let m = t .before .before in
-    rw (eq-eqb _ _ (m .before .if1 .left), sym (m .read-source .ensures) ∙ t .enum-told2 .given .1, ← c .before .record-in2 .ensures) (c .started2 .ensures)
+    rw (eq-eqb _ _ (m .before .if1 .left), sym (m .read-source .ensures) ∙ t .enum-told2 .given .1, ← c .before .record-in-copy1 .ensures) (c .started2 .ensures)
 
 returns-4 : tie.Need-returns-4
 unfolding startUp startedAt
@@ -98,16 +80,10 @@ start-up-spec =
     returns
     read-source-requires
     enum-told
-    sub-record-in
-    part-record-in-start
-    part-record-in-end
-    record-in-requires
+    record-in-copy0-requires
     started-requires
     enum-told-2
-    sub-record-in-2
-    part-record-in-start-2
-    part-record-in-end-2
-    record-in-requires-2
+    record-in-copy1-requires
     started-requires-2
     enum-told-3
     refused-requires-2
