@@ -32,6 +32,15 @@ stagedGate bank set a sliceLength =
 abbrev pub Lined : Type 0
 Lined = Line × List ℕ
 
+-- a line past a gate, or what shuts it; and with the store slice, which stays as it was
+unfoldable pub pastGate : Gate → Line → Line
+pastGate Open own = own
+pastGate (Shut why) own = Refused why
+
+unfoldable pub gated : Gate → (s : List ℕ) → (own : Lined) → Lined
+gated Open s own = own
+gated (Shut why) s own = (Refused why, s)
+
 -- the stores of a change: `to` is where it leads, with their number
 unfoldable pub listed : (to : ℕ → Line) (a new s : List ℕ) → Lined
 listed to a new s = (to (length (changeStores a new)), withList s (changeStores a new))

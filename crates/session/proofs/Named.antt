@@ -7,21 +7,11 @@ use Prim.Native.Nat.{ℕ}
 use denote.Enum.Declared.{tagOf}
 use types.Run.{OneOf, miss}
 use Rattle.refusals.specs.declared.Refusal.the-variants.{SessionState}
-use Rattle.changes.specs.NewRecord.{updateBankOf, begunRecord}
 use Rattle.session.specs.declared.Session.{Session}
 use Rattle.session.specs.declared.Session.the-variants.{Regular, Staging, Trial, Fallback, Restart}
 use Rattle.session.specs.Outcome.{refusedWith}
-use Rattle.session.specs.Calls.{held, refusedCall, changedTo, stagingFits, selected, beginLine, commitLine, endLine, cancelLine, acceptLine, selectPreviousLine}
+use Rattle.session.specs.Calls.{refusedCall, stagingFits, selected, beginLine, commitLine, endLine, cancelLine, acceptLine, selectPreviousLine}
 use Rattle.session.proofs.Session.{the-type}
-
-pub begins : (q : Session) (a s : List ℕ) → OneOf (0 ∷ 1 ∷ []) (tagOf the-type q)
-    → changedTo (Staging (updateBankOf (held a)) 0) a (begunRecord (held a)) s ≡ beginLine q a s
-unfolding beginLine
-begins Regular a s h = refl
-begins (Staging bank set) a s h = refl
-begins Trial a s h = absurd (miss (0 ∷ 1 ∷ []) 2 tt h)
-begins Fallback a s h = absurd (miss (0 ∷ 1 ∷ []) 3 tt h)
-begins Restart a s h = absurd (miss (0 ∷ 1 ∷ []) 4 tt h)
 
 pub not-begun : (q : Session) (a s : List ℕ) → OneOf (2 ∷ 3 ∷ 4 ∷ []) (tagOf the-type q) → (refusedWith q SessionState, s) ≡ beginLine q a s
 unfolding beginLine refusedCall
@@ -80,6 +70,14 @@ not-selecting Fallback a s h = absurd (miss (0 ∷ 1 ∷ 4 ∷ []) 3 tt h)
 not-selecting Restart a s h = refl
 
 -- 24 is of a Staging session alone
+pub fits-selecting : (q : Session) (r : List ℕ) → OneOf (2 ∷ 3 ∷ []) (tagOf the-type q) → true ≡ stagingFits q r
+unfolding stagingFits
+fits-selecting Regular r h = absurd (miss (2 ∷ 3 ∷ []) 0 tt h)
+fits-selecting (Staging bank set) r h = absurd (miss (2 ∷ 3 ∷ []) 1 tt h)
+fits-selecting Trial r h = refl
+fits-selecting Fallback r h = refl
+fits-selecting Restart r h = absurd (miss (2 ∷ 3 ∷ []) 4 tt h)
+
 pub fits-otherwise : (q : Session) (r : List ℕ) → OneOf (0 ∷ 2 ∷ 3 ∷ 4 ∷ []) (tagOf the-type q) → true ≡ stagingFits q r
 unfolding stagingFits
 fits-otherwise Regular r h = refl

@@ -4,6 +4,7 @@ use Prim.Native.Nat.{ℕ}
 use mathlib.Core.Bool.{true}
 use mathlib.Core.List.{List}
 use mathlib.Core.Path.{_≡_}
+use Rattle.refusals.specs.declared.Refusal.the-variants.{SessionState}
 use Rattle.alterations.specs.Altered.{Changeable}
 use Rattle.gates.specs.declared.Gate.{Gate}
 use Rattle.gates.specs.declared.Gate.the-variants.{Open, Shut}
@@ -11,7 +12,7 @@ use Rattle.gates.specs.declared.Line.{Line}
 use Rattle.gates.specs.declared.Line.the-variants as line
 use Rattle.session.specs.declared.Session.{Session}
 use Rattle.session.specs.declared.Session.the-variants.{Regular, Staging, Trial, Restart}
-use Rattle.session.specs.Outcome.{Decision, accepted, refused, Outcome, refusedWith, acceptedWith}
+use Rattle.session.specs.Outcome.{Decision, accepted, refusal, refused, Outcome, refusedWith, acceptedWith}
 use Rattle.session.specs.Calls.{held, stagingFits}
 
 -- a call that none of 20, 23, 21, 22 and 24 refuses
@@ -23,6 +24,11 @@ pub record Admitted (q : Session) (a s : List ℕ) : Type 0 where
 abbrev pub gateDecision : Gate → Decision
 gateDecision Open = accepted
 gateDecision (Shut why) = refused why
+
+-- 25, of a call that is admitted and whose session it does not name
+abbrev pub unnamed : Decision → Decision
+unnamed accepted = refused SessionState
+unnamed (refusal number values) = refusal number values
 
 -- what the answer to a line states
 abbrev pub lineOutcome : Session → Line → Outcome

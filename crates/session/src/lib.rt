@@ -1,22 +1,23 @@
 // The session, the answer of start-up, repair and the calls, and the six calls (document 01, "Session and calls"). Each call tests in the
 // order of "When the bench says no", 20, 23, 21, 22, 24 and then its own line's 25, 26 and 27; a refusal hands the session back as it
-// was, with no list. Which sessions a call names is here; what its own line tests and lists beyond that is in crates
-// staging_lines and trial_lines.
+// was, with no list. Which sessions a call names is here; the call of one that is named, over what the session carries, is in crates
+// staging_calls and trial_calls.
 use admission::admit_staged;
 use gates::Gate;
 use gates::Line;
 use gates::admit_area;
 use refusals::Refusal;
-use staging_lines::begin_line;
-use staging_lines::commit_line;
-use staging_lines::end_line;
-use trial_lines::accept_line;
-use trial_lines::select_line;
+use staging_calls::begin_regular;
+use staging_calls::begin_staging;
+use staging_calls::cancel_call;
+use staging_calls::commit_call;
+use staging_calls::end_call;
+use trial_calls::accept_call;
+use trial_calls::select_call;
 ghost use mathlib.Core.Path.{_≡_};
-ghost use Rattle.refusals.specs.declared.Refusal.the-variants.{SessionState};
 ghost use Rattle.session.specs.Outcome.{outcomeOf, refusedWith, acceptedWith};
 ghost use Rattle.session.specs.Calls.{admission, beginCall, commitCall, endCall, cancelCall, acceptCall, selectPreviousCall};
-ghost use Rattle.session.specs.Admitted.{gateDecision, lineOutcome};
+ghost use Rattle.session.specs.Admitted.{gateDecision, unnamed, lineOutcome};
 
 // "Five session states: Regular, Staging, Trial, Fallback, Restart. Staging carries its bank and a 32-bit set of committed
 // images."
@@ -76,10 +77,14 @@ impl Session {
         admit_area(area, numbers)
     }
 
-    // 25: "session not among those named for the call".
-    fn not_named(self) -> Answer
-        ensures { λ r. ⌜ outcomeOf r ≡ refusedWith self SessionState ⌝ }
+    // 25, "session not among those named for the call", where none of 20, 23, 21, 22 and 24 comes before it.
+    fn not_named(self, area: &[u8], numbers: usize) -> Answer
+        ensures { λ r. ⌜ outcomeOf r ≡ (self, unnamed (admission self (now (area .entry)) numbers), 0) ⌝ }
     {
+        let gate = self.admit(area, numbers);
+        if let Gate::Shut(why) = gate {
+            return Answer::refused(self, why);
+        }
         Answer::refused(self, Refusal::SessionState)
     }
 
@@ -111,16 +116,15 @@ impl Session {
     pub fn begin(self, area: &[u8], out: &mut [u32]) -> Answer
         ensures { λ r. ⌜ (outcomeOf r, now (out .exit)) ≡ beginCall self (now (area .entry)) (now (out .entry)) ⌝ }
     {
-        let gate = self.admit(area, out.len());
-        if let Gate::Shut(why) = gate {
-            return Answer::refused(self, why);
-        }
         match self {
-            Session::Regular | Session::Staging { bank: _, set: _ } => {
-                return self.answered(begin_line(area, out));
+            Session::Regular => {
+                return self.answered(begin_regular(area, out));
+            }
+            Session::Staging { bank, set } => {
+                return self.answered(begin_staging(area, bank, set, out));
             }
             _ => {
-                return self.not_named();
+                return self.not_named(area, out.len());
             }
         }
     }
@@ -129,72 +133,52 @@ impl Session {
     pub fn commit(self, area: &[u8], guid: [u8; 16], request: u32, out: &mut [u32]) -> Answer
         ensures { λ r. ⌜ (outcomeOf r, now (out .exit)) ≡ commitCall self guid request (now (area .entry)) (now (out .entry)) ⌝ }
     {
-        let gate = self.admit(area, out.len());
-        if let Gate::Shut(why) = gate {
-            return Answer::refused(self, why);
-        }
         let Session::Staging { bank, set } = self else {
-            return self.not_named();
+            return self.not_named(area, out.len());
         };
-        self.answered(commit_line(area, bank, set, guid, request, out))
+        self.answered(commit_call(area, bank, set, guid, request, out))
     }
 
     // "End (Staging)".
     pub fn end(self, area: &[u8], out: &mut [u32]) -> Answer
         ensures { λ r. ⌜ (outcomeOf r, now (out .exit)) ≡ endCall self (now (area .entry)) (now (out .entry)) ⌝ }
     {
-        let gate = self.admit(area, out.len());
-        if let Gate::Shut(why) = gate {
-            return Answer::refused(self, why);
-        }
-        let Session::Staging { bank: _, set } = self else {
-            return self.not_named();
+        let Session::Staging { bank, set } = self else {
+            return self.not_named(area, out.len());
         };
-        self.answered(end_line(area, set, out))
+        self.answered(end_call(area, bank, set, out))
     }
 
     // "Cancel (Staging)": "Cancel itself changes nothing in the record", so nothing is listed.
     pub fn cancel(self, area: &[u8], out: &mut [u32]) -> Answer
         ensures { λ r. ⌜ (outcomeOf r, now (out .exit)) ≡ cancelCall self (now (area .entry)) (now (out .entry)) ⌝ }
     {
-        let gate = self.admit(area, out.len());
-        if let Gate::Shut(why) = gate {
-            return Answer::refused(self, why);
-        }
-        let Session::Staging { bank: _, set: _ } = self else {
-            return self.not_named();
+        let Session::Staging { bank, set } = self else {
+            return self.not_named(area, out.len());
         };
-        Answer::accepted(Session::Regular, 0)
+        self.answered(cancel_call(area, bank, set, out.len()))
     }
 
     // "Accept (Trial)", by type GUID.
     pub fn accept(self, area: &[u8], guid: [u8; 16], out: &mut [u32]) -> Answer
         ensures { λ r. ⌜ (outcomeOf r, now (out .exit)) ≡ acceptCall self guid (now (area .entry)) (now (out .entry)) ⌝ }
     {
-        let gate = self.admit(area, out.len());
-        if let Gate::Shut(why) = gate {
-            return Answer::refused(self, why);
-        }
         let Session::Trial = self else {
-            return self.not_named();
+            return self.not_named(area, out.len());
         };
-        self.answered(accept_line(area, guid, out))
+        self.answered(accept_call(area, guid, out))
     }
 
     // "Select previous (Trial, Fallback)".
     pub fn select_previous(self, area: &[u8], out: &mut [u32]) -> Answer
         ensures { λ r. ⌜ (outcomeOf r, now (out .exit)) ≡ selectPreviousCall self (now (area .entry)) (now (out .entry)) ⌝ }
     {
-        let gate = self.admit(area, out.len());
-        if let Gate::Shut(why) = gate {
-            return Answer::refused(self, why);
-        }
         match self {
             Session::Trial | Session::Fallback => {
-                return self.answered(select_line(area, out));
+                return self.answered(select_call(area, out));
             }
             _ => {
-                return self.not_named();
+                return self.not_named(area, out.len());
             }
         }
     }

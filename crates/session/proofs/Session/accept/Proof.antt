@@ -1,63 +1,27 @@
 -- `accept` meets its contract. Assumes nothing.
-use lib.ListN.{length}
-use mathlib.Core.Path.{_≡_, refl, sym, ap, _∙_}
 use Rattle.session.specs.declared.Session.{Session}
-use Rattle.session.specs.Outcome.{accepted}
-use Rattle.session.specs.Calls.{admission, acceptLine, acceptCall}
-use Rattle.session.specs.Admitted.{gateDecision}
-use Rattle.session.proofs.Admission.{admitted, called-accepted, called-refused}
-use Rattle.session.proofs.Lines.{led, accept-line}
+use Rattle.session.specs.declared.Session.the-variants.{Trial}
+use Rattle.session.specs.Calls.{held, acceptLine, acceptCall}
+use Rattle.session.proofs.Lines.{other-led, not-led, accept-line, trial-fits}
 use Rattle.session.proofs.Named.{no-accept}
 use borrow.Author.Needs.{needs}
 use Rattle.session.proofs.Session.accept.Statement.{statement}
 use Rattle.session.proofs.Session.accept.Tie as tie
 
--- the gate was found open
-allowed : (c : tie.After-enum-told)
-    → let s = c .before .before .before .before .before in accepted ≡ admission (s .args .self) (s .args .area .now) (length (s .args .out .now))
-allowed c = ap gateDecision (sym (c .enum-told .given .1)) ∙ c .before .before .admit .ensures
-
-admit-requires : tie.Need-admit-requires
-admit-requires c κs = search needs
-
-enum-known-gate : tie.Need-enum-known-gate
-enum-known-gate c = search needs
-
-refused-requires : tie.Need-refused-requires
-refused-requires c κs = search needs
-
-returns : tie.Need-returns
-unfolding acceptCall
-returns c =
-    let v = c .before .before in
-    let s = v .before .before .before .before .before in
-    rw (c .refused .ensures)
-    (called-refused (s .args .self) (s .args .area .now) (s .args .out .now) _ (v .gate .given .0 .0)
-    (ap gateDecision (sym (v .gate .given .1)) ∙ v .before .before .admit .ensures))
-
 enum-told : tie.Need-enum-told
 enum-told c = search needs
-
-enum-told-2 : tie.Need-enum-told-2
-enum-told-2 c = search needs
 
 not-named-requires : tie.Need-not-named-requires
 not-named-requires c κs = search needs
 
-returns-2 : tie.Need-returns-2
+returns : tie.Need-returns
 unfolding acceptCall
-returns-2 c =
-    let t = c .before .before in
-    let s = t .before .before .before .before .before in
-    rw (c .not-named .ensures)
-    (no-accept (s .args .self) (s .args .guid) (s .args .area .now) (s .args .out .now) (c .before .match2 .keys2)
-    ∙ called-accepted (s .args .self) (s .args .area .now) (s .args .out .now) _ (allowed t))
+returns c =
+    let s = c .before .before .before .before in
+    rw (c .not-named .ensures) (not-led (s .args .self) (s .args .area .now) (s .args .out .now) _ (no-accept (s .args .self) (s .args .guid) (s .args .area .now) (s .args .out .now) (c .before .match .keys2)))
 
-accept-line-requires : tie.Need-accept-line-requires
-accept-line-requires c κs =
-    let t = c .before .before .before in
-    let s = t .before .before .before .before .before in
-    admitted (s .args .self) (s .args .area .now) (s .args .out .now) (allowed t) .change
+accept-call-requires : tie.Need-accept-call-requires
+accept-call-requires c κs = search needs
 
 answered-requires : tie.Need-answered-requires
 answered-requires c κs = search needs
@@ -65,31 +29,24 @@ answered-requires c κs = search needs
 same-length : tie.Need-same-length
 same-length c = search needs
 
-returns-3 : tie.Need-returns-3
+returns-2 : tie.Need-returns-2
 unfolding acceptCall
-returns-3 c =
+returns-2 c =
     let l = c .before .before .before in
-    let v = l .before .before in
-    let t = v .before .before in
-    let s = t .before .before .before .before .before in
+    let t = l .before .before in
+    let s = t .before .before .before .before in
     rw (c .answered .ensures)
-    (led (s .args .self) (s .args .self) (s .args .area .now) (s .args .out .now) _ _
-    (λ (q : Session). acceptLine q (s .args .guid) (s .args .area .now) (s .args .out .now)) refl (l .accept-line .ensures)
-    (accept-line (s .args .self) (s .args .guid) (s .args .area .now) (s .args .out .now) (v .enum-told2 .given .1)) (allowed t))
+    (other-led (s .args .self) Trial (s .args .area .now) (s .args .out .now) _ _ (λ (q : Session). acceptLine q (s .args .guid) (s .args .area .now) (s .args .out .now)) (t .enum-told .given .1) (trial-fits (held (s .args .area .now)))
+    (l .accept-call .ensures) (accept-line (s .args .guid) (s .args .area .now) (s .args .out .now)))
 
 pub accept-spec : {M : Type 1} → statement M
 accept-spec =
     tie.close
     (tie.spec
-    admit-requires
-    enum-known-gate
-    refused-requires
-    returns
     enum-told
-    enum-told-2
     not-named-requires
-    returns-2
-    accept-line-requires
+    returns
+    accept-call-requires
     answered-requires
     same-length
-    returns-3)
+    returns-2)

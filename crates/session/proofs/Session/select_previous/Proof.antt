@@ -1,48 +1,15 @@
 -- `select_previous` meets its contract. Assumes nothing.
-use lib.ListN.{length}
-use mathlib.Core.Path.{_≡_, refl, sym, ap, _∙_}
+use mathlib.Core.Path.{refl, _∙_}
 use Rattle.session.specs.declared.Session.{Session}
-use Rattle.session.specs.Outcome.{accepted}
-use Rattle.session.specs.Calls.{admission, selectPreviousLine, selectPreviousCall}
-use Rattle.session.specs.Admitted.{gateDecision}
-use Rattle.session.proofs.Admission.{admitted, called-accepted, called-refused}
-use Rattle.session.proofs.Lines.{led, select-line}
-use Rattle.session.proofs.Named.{selects, not-selecting}
+use Rattle.session.specs.Calls.{held, selectPreviousLine, selectPreviousCall}
+use Rattle.session.proofs.Lines.{other-led, not-led, select-line}
+use Rattle.session.proofs.Named.{selects, not-selecting, fits-selecting}
 use borrow.Author.Needs.{needs}
 use Rattle.session.proofs.Session.select_previous.Statement.{statement}
 use Rattle.session.proofs.Session.select_previous.Tie as tie
 
--- the gate was found open
-allowed : (c : tie.After-enum-told)
-    → let s = c .before .before .before .before .before in accepted ≡ admission (s .args .self) (s .args .area .now) (length (s .args .out .now))
-allowed c = ap gateDecision (sym (c .enum-told .given .1)) ∙ c .before .before .admit .ensures
-
-admit-requires : tie.Need-admit-requires
-admit-requires c κs = search needs
-
-enum-known-gate : tie.Need-enum-known-gate
-enum-known-gate c = search needs
-
-refused-requires : tie.Need-refused-requires
-refused-requires c κs = search needs
-
-returns : tie.Need-returns
-unfolding selectPreviousCall
-returns c =
-    let v = c .before .before in
-    let s = v .before .before .before .before .before in
-    rw (c .refused .ensures)
-    (called-refused (s .args .self) (s .args .area .now) (s .args .out .now) _ (v .gate .given .0 .0)
-    (ap gateDecision (sym (v .gate .given .1)) ∙ v .before .before .admit .ensures))
-
-enum-told : tie.Need-enum-told
-enum-told c = search needs
-
-select-line-requires : tie.Need-select-line-requires
-select-line-requires c κs =
-    let t = c .before .before in
-    let s = t .before .before .before .before .before in
-    admitted (s .args .self) (s .args .area .now) (s .args .out .now) (allowed t) .change
+select-call-requires : tie.Need-select-call-requires
+select-call-requires c κs = search needs
 
 answered-requires : tie.Need-answered-requires
 answered-requires c κs = search needs
@@ -50,41 +17,32 @@ answered-requires c κs = search needs
 same-length : tie.Need-same-length
 same-length c = search needs
 
-returns-2 : tie.Need-returns-2
+returns : tie.Need-returns
 unfolding selectPreviousCall
-returns-2 c =
+returns c =
     let l = c .before .before .before in
     let m = l .before .before in
-    let t = m .before in
-    let s = t .before .before .before .before .before in
+    let s = m .before .before .before in
     rw (c .answered .ensures)
-    (led (s .args .self) (s .args .self) (s .args .area .now) (s .args .out .now) _ _ (λ (q : Session). selectPreviousLine q (s .args .area .now) (s .args .out .now)) refl (l .select-line .ensures)
-    (select-line (s .args .self) (s .args .area .now) (s .args .out .now) ∙ selects (s .args .self) (s .args .area .now) (s .args .out .now) (m .match2 .keys1)) (allowed t))
+    (other-led (s .args .self) (s .args .self) (s .args .area .now) (s .args .out .now) _ _ (λ (q : Session). selectPreviousLine q (s .args .area .now) (s .args .out .now)) refl (fits-selecting (s .args .self) (held (s .args .area .now)) (m .match .keys1))
+    (l .select-call .ensures) (select-line (s .args .self) (s .args .area .now) (s .args .out .now) ∙ selects (s .args .self) (s .args .area .now) (s .args .out .now) (m .match .keys1)))
 
 not-named-requires : tie.Need-not-named-requires
 not-named-requires c κs = search needs
 
-returns-3 : tie.Need-returns-3
+returns-2 : tie.Need-returns-2
 unfolding selectPreviousCall
-returns-3 c =
-    let t = c .before .before in
-    let s = t .before .before .before .before .before in
-    rw (c .not-named .ensures)
-    (not-selecting (s .args .self) (s .args .area .now) (s .args .out .now) (c .before .match2 .keys2)
-    ∙ called-accepted (s .args .self) (s .args .area .now) (s .args .out .now) _ (allowed t))
+returns-2 c =
+    let s = c .before .before .before .before in
+    rw (c .not-named .ensures) (not-led (s .args .self) (s .args .area .now) (s .args .out .now) _ (not-selecting (s .args .self) (s .args .area .now) (s .args .out .now) (c .before .match .keys2)))
 
 pub select-previous-spec : {M : Type 1} → statement M
 select-previous-spec =
     tie.close
     (tie.spec
-    admit-requires
-    enum-known-gate
-    refused-requires
-    returns
-    enum-told
-    select-line-requires
+    select-call-requires
     answered-requires
     same-length
-    returns-2
+    returns
     not-named-requires
-    returns-3)
+    returns-2)
