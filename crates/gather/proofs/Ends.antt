@@ -12,7 +12,8 @@ use Rattle.refusals.specs.declared.Refusal.the-variants.{TotalZero, NoPlace}
 use Rattle.descriptors.specs.Reading.{Reading, refused, whole, reading}
 use Rattle.place.specs.Place.{placeFor}
 use Rattle.place.specs.declared.Place.the-variants.{At, Nowhere}
-use Rattle.gather.specs.Gather.{refusal, place, blocks, copiedTo, finished, gathered}
+use Rattle.blocks.specs.Blocks.{blocks}
+use Rattle.gather.specs.Gather.{refusal, place, copiedTo, finished, gathered}
 
 module _ (w : List ℕ) (B t : ℕ) (ds : List ℕ) where
   pub total-zero : t ≡ 0 → (refusal (numberOf TotalZero), w) ≡ finished w B (whole t ds)

@@ -23,9 +23,10 @@ use Rattle.place.specs.Law.{LowestFree, NoneFree}
 use Rattle.place.specs.declared.Place.{Place}
 use Rattle.place.specs.declared.Place.the-variants.{At, Nowhere}
 use Rattle.place.proofs.Law.{place-law, no-place-law, law-place, law-no-place}
-use Rattle.gather.specs.Gather.{Answer, refusal, place, blocks, copiedTo, finished, gathered}
+use Rattle.blocks.specs.Blocks.{blocks}
+use Rattle.gather.specs.Gather.{Answer, refusal, place, copiedTo, finished, gathered}
 use Rattle.gather.specs.Law.{Succeeded, WasEmpty, HadNoPlace}
-use Rattle.gather.proofs.Copy.{blocks-length}
+use Rattle.blocks.proofs.Copy.{blocks-length}
 use Rattle.gather.proofs.Ends.{total-zero, no-place, at-place, list-whole}
 
 abbrev Outcome : Type 0

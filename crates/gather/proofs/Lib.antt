@@ -1,4 +1,3 @@
 -- Laws about the definitions of specs/, for the proofs here and in the crates above.
-pub mod Copy
 pub mod Ends
 pub mod Law

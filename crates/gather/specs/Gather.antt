@@ -3,16 +3,16 @@
 -- descriptors read, and total what their lengths add up to. Assumes nothing.
 use Prim.Native.Nat.{ℕ, _+_, _-_}
 use mathlib.Core.Bool.{Bool, true, false, cond}
-use mathlib.Core.List.{List, [], _∷_, _++_}
+use mathlib.Core.List.{List}
 use lib.Dec.{eqb}
-use lib.ListN.{take, drop}
 use Rattle.fields.specs.Number.{put}
 use Rattle.refusals.specs.Number.{numberOf}
 use Rattle.refusals.specs.declared.Refusal.the-variants.{TotalZero, NoPlace}
-use Rattle.descriptors.specs.Reading.{Reading, refused, whole, lengthOf, addressOf, reading}
+use Rattle.descriptors.specs.Reading.{Reading, refused, whole, reading}
 use Rattle.place.specs.Place.{placeFor}
 use Rattle.place.specs.declared.Place.{Place}
 use Rattle.place.specs.declared.Place.the-variants.{At, Nowhere}
+use Rattle.blocks.specs.Blocks.{blocks}
 use Rattle.gather.specs.declared.Gathered.{Gathered}
 use Rattle.gather.specs.declared.Gathered.the-variants.{Refused, Placed}
 
@@ -25,15 +25,6 @@ pub data Answer : Type 0 where
 abbrev pub answerOf : Gathered → Answer
 answerOf (Refused n) = refusal (numberOf n)
 answerOf (Placed p total) = place p total
-
--- the bytes of the block of the descriptor at d; none where its Length is 0
-unfoldable pub block : List ℕ → ℕ → ℕ → List ℕ
-block w B d = take (lengthOf w B d) (drop (addressOf w B d - B) w)
-
--- "the blocks, in list order" (demand 2)
-unfoldable pub blocks : List ℕ → ℕ → List ℕ → List ℕ
-blocks w B [] = []
-blocks w B (d ∷ ds) = block w B d ++ blocks w B ds
 
 -- a place: the blocks go there, and "Bytes outside it stay." None: 7, and no byte altered
 unfoldable pub copiedTo : Place → List ℕ → ℕ → ℕ → List ℕ → Answer × List ℕ

@@ -8,7 +8,7 @@ use lib.ListN.{length, getD}
 use Rattle.descriptors.specs.Law.{Faultless}
 use Rattle.descriptors.specs.Scratch.{lengths}
 use Rattle.place.specs.Law.{LowestFree, NoneFree}
-use Rattle.gather.specs.Gather.{blocks}
+use Rattle.blocks.specs.Blocks.{blocks}
 
 -- success: "the blocks, in list order, at the lowest place that shares no byte with a block or a descriptor read, changes nothing else"
 pub record Succeeded (w : List ℕ) (B first p total : ℕ) (afterwards : List ℕ) : Type 0 where

@@ -1,4 +1,3 @@
 -- Gathering a scattered capsule. Assumes nothing.
 pub mod Gather
 pub mod Law
-pub mod Copy

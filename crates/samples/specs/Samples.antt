@@ -9,7 +9,8 @@ use Rattle.fields.specs.Number.{le, bytes, put}
 use Rattle.window.specs.Window.{within, descriptorFits}
 use Rattle.descriptors.specs.Reading.{lengthOf, addressOf, withDescriptor, jumpOrEnd, dataBlock, walk, reading}
 use Rattle.place.specs.Place.{apart, clearOf, clearOfAll, free, lowest, placeFor}
-use Rattle.gather.specs.Gather.{Answer, refusal, place, block, blocks, copiedTo, finished, gathered}
+use Rattle.blocks.specs.Blocks.{block, blocks}
+use Rattle.gather.specs.Gather.{Answer, refusal, place, copiedTo, finished, gathered}
 use Rattle.crc.specs.Crc.{step, steps, withByte, withBytes, crc32Of}
 use Rattle.record.specs.Layout.{recordSize, updateBank}
 use Rattle.samples.specs.Windows.{descriptors, window}

@@ -7,10 +7,10 @@ use borrow.Author.Needs.{needs}
 use lib.ListN.{length}
 use Rattle.descriptors.specs.Reading.{lengthOf, addressOf}
 use Rattle.descriptors.proofs.Steps.{length-at, address-at}
-use Rattle.gather.specs.Gather.{block}
-use Rattle.gather.proofs.Copy.{no-block}
-use Rattle.gather.proofs.copy_block.Statement.{statement}
-use Rattle.gather.proofs.copy_block.Tie as tie
+use Rattle.blocks.specs.Blocks.{block}
+use Rattle.blocks.proofs.Copy.{no-block}
+use Rattle.blocks.proofs.copy_block.Statement.{statement}
+use Rattle.blocks.proofs.copy_block.Tie as tie
 
 sub-at : tie.Need-sub-at
 sub-at c = search needs

@@ -5,11 +5,11 @@ use native.Mathlib.Omega.{arith}
 use lib.ListN.{length, take, getD}
 use Rattle.fields.specs.Number.{put}
 use Rattle.descriptors.specs.Reading.{lengthOf}
-use Rattle.gather.specs.Gather.{block, blocks}
-use Rattle.gather.specs.Copy.{Ready}
-use Rattle.gather.proofs.Copy.{ready, after, next, none-yet, at-start}
-use Rattle.gather.proofs.copy_blocks.Statement.{statement}
-use Rattle.gather.proofs.copy_blocks.Tie as tie
+use Rattle.blocks.specs.Blocks.{block, blocks}
+use Rattle.blocks.specs.Copy.{Ready}
+use Rattle.blocks.proofs.Copy.{ready, after, next, none-yet, at-start}
+use Rattle.blocks.proofs.copy_blocks.Statement.{statement}
+use Rattle.blocks.proofs.copy_blocks.Tie as tie
 
 abbrev Inv-loop : tie.InvT-loop
 Inv-loop w₀ base ds count p q₀ i₀ w q i =

@@ -11,8 +11,8 @@ use lib.ListN.{length, take, drop, getD, set, length-drop, length-set}
 use lib.Seq.{paste, paste-zero, paste-suc, getD-drop, length-take-le}
 use Rattle.fields.specs.Number.{put}
 use Rattle.fields.proofs.Put.{put-paste, put-outside}
-use Rattle.gather.proofs.copy_bytes.Statement.{statement}
-use Rattle.gather.proofs.copy_bytes.Tie as tie
+use Rattle.blocks.proofs.copy_bytes.Statement.{statement}
+use Rattle.blocks.proofs.copy_bytes.Tie as tie
 
 abbrev Inv-loop : tie.InvT-loop
 Inv-loop w₀ from to n i₀ w i = (i ≤ n) × (w ≡ paste w₀ to (drop from w₀) i) × (length w ≡ length w₀)

@@ -19,8 +19,8 @@ use Rattle.descriptors.proofs.Steps.{length-at, address-at}
 use Rattle.place.specs.Place.{clearOf, clearOfAll, free}
 use Rattle.place.proofs.Ranges.{clear-each, clear-descriptor, clear-block}
 use Rattle.place.proofs.Search.{free-parts}
-use Rattle.gather.specs.Gather.{block, blocks}
-use Rattle.gather.specs.Copy.{Ready}
+use Rattle.blocks.specs.Blocks.{block, blocks}
+use Rattle.blocks.specs.Copy.{Ready}
 
 -- nothing written
 put-nothing : (w : List ℕ) (q : ℕ) → w ≡ put w q []
