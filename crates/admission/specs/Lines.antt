@@ -1,4 +1,4 @@
--- What the functions here, and those that work each call's own line (crates staging_lines, trial_lines), answer to a call. Nothing here is needed
+-- What the functions here, and those that work each call (crates staging_lines, trial_lines, staging_calls, trial_calls), answer. Nothing here is needed
 -- to read an entry's promise: crate session states 24 and each call's line by itself (crates/session/specs/Calls.antt) and is proved to agree. a
 -- is the bytes of the area, s the numbers of the store slice, g the bytes of a type GUID. Assumes nothing.
 use Prim.Native.Nat.{ℕ}
@@ -32,11 +32,12 @@ stagedGate bank set a sliceLength =
 abbrev pub Lined : Type 0
 Lined = Line × List ℕ
 
--- a line past a gate, or what shuts it; and with the store slice, which stays as it was
+-- a line past a gate, or what shuts it
 unfoldable pub pastGate : Gate → Line → Line
 pastGate Open own = own
 pastGate (Shut why) own = Refused why
 
+-- the same with the store slice, which stays as it was where the gate is shut
 unfoldable pub gated : Gate → (s : List ℕ) → (own : Lined) → Lined
 gated Open s own = own
 gated (Shut why) s own = (Refused why, s)

@@ -1,4 +1,5 @@
 // The way in from C and Rust (include/meanderpeg.h): the vendor codes of a capsule's items. A slice passes as a pointer and a length.
+use capsule_parts::image_end;
 ghost use mathlib.Core.Path.{_≡_};
 ghost use Rattle.capsule_check.specs.Item.{located};
 ghost use Rattle.capsule.specs.Parts.{lengthIn};
@@ -20,8 +21,7 @@ pub extern "C" fn meanderpeg_capsule_vendor_code_start(s: &[u8], k: usize) -> us
     let found = capsule_check::locate(s, k);
     match found {
         capsule_check::Item::Driver { start: _, end } => end,
-        capsule_check::Item::Payload { start, end } => start
-            + capsule_parts::image_end(&s[start..end]),
+        capsule_check::Item::Payload { start, end } => start + image_end(&s[start..end]),
         capsule_check::Item::Refused(_) => 0,
     }
 }

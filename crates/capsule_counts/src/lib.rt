@@ -5,7 +5,7 @@ use capsule_header::body_of;
 ghost use mathlib.Core.Path.{_≡_};
 ghost use Rattle.capsule_counts.specs.Count.{driverCount, payloadCount};
 
-// How many drivers a faultless capsule has. A refused one answers 0, and `check` says why.
+// How many drivers a faultless capsule has.
 pub fn driver_count(s: &[u8]) -> usize
     ensures { λ r. ⌜ r ≡ driverCount (now (s .entry)) ⌝ }
 {

@@ -85,7 +85,7 @@ other-admission q a n e =
     ∙ ap (λ (b : Bool). decided (areaGate a n) (cond (not b) (refused StagingFault) accepted)) e
     ∙ admission-by-gate q a n
 
--- a call that is admitted
+-- a call that is admitted, of which `end-law` (CallLaws) speaks
 opened : (g : Gate) (rest : Decision) → accepted ≡ decided g rest → (g ≡ Open) × (accepted ≡ rest)
 unfolding decided
 opened Open rest e = (refl, e)
@@ -101,9 +101,6 @@ admitted q a s e =
     let p = opened (areaGate a (length s)) (stagingDecision q a) (e ∙ sym (admission-by-gate q a (length s))) in
     let o = gate-open a (length s) (p .0) in
     record { change = record { long = o .0; equal = o .1; room = o .2 }; staging = fitting (stagingFits q (held a)) (p .1) }
-
-pub admitted-below : (q : Session) (bank set : ℕ) (a s : List ℕ) → q ≡ Staging bank set → Admitted q a s → set < 2 ^ imageCount (held a)
-admitted-below q bank set a s e p = staged-below bank set (held a) (ap (λ (x : Session). stagingFits x (held a)) (sym e) ∙ p .staging)
 
 -- a call's result, admitted or not
 pub called-accepted : (q : Session) (a s : List ℕ) (own : Result) → accepted ≡ admission q a (length s) → own ≡ called q a s own

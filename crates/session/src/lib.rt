@@ -67,7 +67,7 @@ impl Answer {
 }
 
 impl Session {
-    // 20, 23, 21, 22 and 24, in that order: what is tested before a call looks at its own line.
+    // 20, 23, 21, 22 and 24, in that order, of a session that the call does not name; of one that it names staging_calls and trial_calls test them.
     fn admit(self, area: &[u8], numbers: usize) -> Gate
         ensures { λ g. ⌜ gateDecision g ≡ admission self (now (area .entry)) numbers ⌝ }
     {
@@ -88,7 +88,7 @@ impl Session {
         Answer::refused(self, Refusal::SessionState)
     }
 
-    // The answer that a call's own line leads to.
+    // The answer that a call over numbers leads to.
     fn answered(self, line: Line) -> Answer
         ensures { λ r. ⌜ outcomeOf r ≡ lineOutcome self line ⌝ }
     {

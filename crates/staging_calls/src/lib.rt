@@ -14,7 +14,7 @@ ghost use Rattle.gates.specs.Gates.{areaGate};
 ghost use Rattle.admission.specs.Lines.{stagedGate, pastGate, gated};
 ghost use Rattle.staging_lines.specs.Lines.{begun, committed, ended};
 
-// Begin of a Regular session.
+// Begin of a Regular session, which has no 24.
 pub fn begin_regular(area: &[u8], out: &mut [u32]) -> Line
     ensures { λ l. ⌜ (l, now (out .exit)) ≡ gated (areaGate (now (area .entry)) (length (now (out .entry)))) (now (out .entry)) (begun (now (area .entry)) (now (out .entry))) ⌝ }
 {
@@ -25,7 +25,7 @@ pub fn begin_regular(area: &[u8], out: &mut [u32]) -> Line
     begin_line(area, out)
 }
 
-// Begin of a Staging session.
+// Begin of a Staging session: 24, then the same.
 pub fn begin_staging(area: &[u8], bank: u32, set: u32, out: &mut [u32]) -> Line
     ensures { λ l. ⌜ (l, now (out .exit)) ≡ gated (stagedGate bank set (now (area .entry)) (length (now (out .entry)))) (now (out .entry)) (begun (now (area .entry)) (now (out .entry))) ⌝ }
 {
@@ -36,7 +36,7 @@ pub fn begin_staging(area: &[u8], bank: u32, set: u32, out: &mut [u32]) -> Line
     begin_line(area, out)
 }
 
-// Commit.
+// Commit: 24, then 26 or the stores.
 pub fn commit_call(
     area: &[u8],
     bank: u32,
@@ -54,7 +54,7 @@ pub fn commit_call(
     commit_line(area, bank, set, guid, request, out)
 }
 
-// End.
+// End: 24, then 27 or the stores.
 pub fn end_call(area: &[u8], bank: u32, set: u32, out: &mut [u32]) -> Line
     ensures { λ l. ⌜ (l, now (out .exit)) ≡ gated (stagedGate bank set (now (area .entry)) (length (now (out .entry)))) (now (out .entry)) (ended set (now (area .entry)) (now (out .entry))) ⌝ }
 {

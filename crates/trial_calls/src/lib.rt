@@ -11,7 +11,7 @@ ghost use Rattle.gates.specs.Gates.{areaGate};
 ghost use Rattle.admission.specs.Lines.{gated};
 ghost use Rattle.trial_lines.specs.Lines.{acceptedOne, selected};
 
-// Accept.
+// Accept: 26 or the stores.
 pub fn accept_call(area: &[u8], guid: [u8; 16], out: &mut [u32]) -> Line
     ensures { λ l. ⌜ (l, now (out .exit)) ≡ gated (areaGate (now (area .entry)) (length (now (out .entry)))) (now (out .entry)) (acceptedOne guid (now (area .entry)) (now (out .entry))) ⌝ }
 {
@@ -22,7 +22,7 @@ pub fn accept_call(area: &[u8], guid: [u8; 16], out: &mut [u32]) -> Line
     accept_line(area, guid, out)
 }
 
-// Select previous.
+// Select previous: 25 of the previous bank, or the stores.
 pub fn select_call(area: &[u8], out: &mut [u32]) -> Line
     ensures { λ l. ⌜ (l, now (out .exit)) ≡ gated (areaGate (now (area .entry)) (length (now (out .entry)))) (now (out .entry)) (selected (now (area .entry)) (now (out .entry))) ⌝ }
 {
