@@ -15,7 +15,7 @@ ghost use mathlib.Core.Path.{_≡_};
 ghost use mathlib.Core.Bool.{true};
 ghost use Prim.Native.Nat.{_≤_, _<_, _^_};
 ghost use lib.ListN.{length};
-ghost use Rattle.record.specs.Layout.{recordOf, copy0, active, previous, state, imageCount};
+ghost use Rattle.record.specs.Layout.{imageLimit, recordOf, copy0, active, previous, state, imageCount};
 ghost use Rattle.record.specs.Rules.{sound, allAccepted};
 ghost use Rattle.changes.specs.NewRecord.{updateBankOf, imageWith, marked};
 ghost use Rattle.committed_set.specs.Set.{missing, setFits};
@@ -57,7 +57,7 @@ pub fn update_bank_in(area: &[u8]) -> u32
 
 pub fn image_count_in(area: &[u8]) -> usize
     requires { ⌜ Held (now area) ⌝ }
-    ensures { λ n. ⌜ (n ≡ imageCount (recordOf (copy0 (now (area .entry))))) × (n ≤ 32) ⌝ }
+    ensures { λ n. ⌜ (n ≡ imageCount (recordOf (copy0 (now (area .entry))))) × (n ≤ imageLimit) ⌝ }
 {
     read16(held_record(area), 34) as usize
 }

@@ -4,12 +4,13 @@ use record::AREA;
 use record::COPY;
 ghost use mathlib.Core.Path.{_≡_};
 ghost use lib.ListN.{length};
+ghost use Rattle.record.specs.Layout.{areaSize};
 ghost use Rattle.sheet.specs.Sheet.{sheetIn};
 ghost use Rattle.c_area.specs.Soundness.{soundCopies, exportedSoundness};
 
 // Which copies are sound, and whether they are equal, as bits.
 fn sound_copies(area: &[u8]) -> u32
-    requires { ⌜ length (now area) ≡ 16384 ⌝ }
+    requires { ⌜ length (now area) ≡ areaSize ⌝ }
     ensures { λ r. ⌜ r ≡ soundCopies (now (area .entry)) ⌝ }
 {
     let second = soundness::sound_copy(&area[COPY..AREA]);

@@ -2,19 +2,16 @@
 use mathlib.Core.Path.{_≡_, sym, _∙_}
 use mathlib.Core.Bool.{true, false, _&&_}
 use mathlib.Core.List.{List, [], _++_}
-use Prim.Native.Nat.{ℕ, _+_, _/_, _≤_}
-use native.Mathlib.Omega.{arith}
-use lib.ListN.{length}
+use Prim.Native.Nat.{ℕ}
 use Rattle.fields.specs.Guid.{same}
 use Rattle.fields.proofs.Tests.{both}
 use Rattle.fields.proofs.Guid.{same-true}
-use Rattle.record.specs.Layout.{copySize, bankCount, imageCount, recordOf, copy0, copy1}
+use Rattle.record.specs.Layout.{copySize, bankCount, recordOf, copy0, copy1}
 use Rattle.record.specs.Rules.{sound, soundCopy}
 use Rattle.record.proofs.Sound.{sound-sized}
-use Rattle.record.proofs.Sizes.{in-words, record-high}
 use Rattle.copies.specs.Copies.{recordsEqual, soundAndEqual}
 use Rattle.stores.specs.Stores.{Store, plan}
-use Rattle.stores.specs.Added.{Added, Listable}
+use Rattle.stores.specs.Added.{Added}
 use Rattle.stores.proofs.Laid.{added-then, added-all, withList-none}
 use Rattle.alterations.specs.ChangeStores.{copyStores, changeStores}
 use Rattle.alterations.specs.Altered.{newRecord, Within, Alterable, Changeable, Listed}
@@ -31,17 +28,6 @@ pub equal-same : (a : List ℕ) → soundAndEqual a ≡ true → recordOf (copy0
 unfolding soundAndEqual recordsEqual
 equal-same a e =
     same-true (recordOf (copy0 a)) (recordOf (copy1 a)) (both (soundCopy (copy0 a) && soundCopy (copy1 a)) (recordsEqual a) e .1)
-
--- a record that is altered is short enough for the list of either copy
-module _ (x : Alteration) (r : List ℕ) (banks : ℕ) (l : Alterable x r banks) where
-  pub listable : (c : List ℕ) (base k room : ℕ) → length c ≡ 8192 → base ≤ 8192 → k ≤ 1035 → 4200 ≤ room → Listable c r base k room
-  listable c base k room lc lb lk lr =
-      let n = in-words r banks (imageCount r) (l .sized) in
-      let h = record-high r banks (imageCount r) (l .sized) in
-      record { low = omega arith; high = omega arith; words = omega arith; inside = omega arith; at = lb; fits = omega arith }
-
-  pub short : length r / 4 + 1 ≤ 1035
-  short = omega (arith, record-high r banks (imageCount r) (l .sized))
 
 -- one list behind the other, from the front
 pub listed-then : (n m : ℕ) (one two : List Store) (d f g : List ℕ) → Added 0 n one d f → Added n m two f g → Listed m (one ++ two) d g

@@ -6,7 +6,7 @@ use Prim.Native.Nat.{ℕ, _+_, _≤_, _<_}
 use native.Mathlib.Nat.{mod-lt}
 use native.Mathlib.Omega.{arith}
 use lib.ListN.{length}
-use Rattle.record.specs.Layout.{active, bankCount, imageCount}
+use Rattle.record.specs.Layout.{headerSize, bankLimit, active, bankCount, imageCount}
 use Rattle.record.specs.Rules.{sound}
 use Rattle.record.specs.Sized.{Sized}
 use Rattle.record.proofs.Sizes.{header-in}
@@ -17,17 +17,17 @@ module _ (r : List ℕ) (e : sound r ≡ true) where
   pub sized : Sized r (bankCount r) (imageCount r)
   sized = sound-sized r e
 
-  pub header : 40 ≤ length r
+  pub header : headerSize ≤ length r
   header = header-in r (bankCount r) (imageCount r) sized
 
-  pub banks-few : (2 ≤ bankCount r) × (bankCount r ≤ 4)
+  pub banks-few : (2 ≤ bankCount r) × (bankCount r ≤ bankLimit)
   banks-few = (sized .banks-low, sized .banks-high)
 
   pub update-in : updateBankOf r < bankCount r
   update-in = mod-lt (active r + 1) (omega (arith, sized .banks-low))
 
-  pub update-low : updateBankOf r < 4
+  pub update-low : updateBankOf r < bankLimit
   update-low = omega (arith, update-in, sized .banks-high)
 
-  pub active-low : active r < 4
+  pub active-low : active r < bankLimit
   active-low = omega (arith, sound-named r e .0, sized .banks-high)

@@ -6,7 +6,7 @@ use Prim.Native.Nat.{ℕ, _+_, _≤_, _<_}
 use native.Mathlib.Nat.{mod-lt}
 use native.Mathlib.Omega.{arith}
 use lib.ListN.{length}
-use Rattle.record.specs.Layout.{active, previous, bankCount, imageCount}
+use Rattle.record.specs.Layout.{headerSize, bankLimit, imageLimit, active, previous, bankCount, imageCount}
 use Rattle.record.specs.Rules.{sound}
 use Rattle.record.proofs.Sound.{sound-sized, sound-named}
 use Rattle.record.proofs.Sizes.{header-in}
@@ -14,10 +14,10 @@ use Rattle.changes.specs.NewRecord.{updateBankOf}
 
 -- the header of a sound record is there, and its numbers have limits
 pub record Known (r : List ℕ) : Type 0 where
-  pub header : 40 ≤ length r
+  pub header : headerSize ≤ length r
   pub banks-low : 2 ≤ bankCount r
-  pub banks-high : bankCount r ≤ 4
-  pub images-high : imageCount r ≤ 32
+  pub banks-high : bankCount r ≤ bankLimit
+  pub images-high : imageCount r ≤ imageLimit
   pub active-low : active r < bankCount r
   pub previous-low : previous r < bankCount r
   pub update-low : updateBankOf r < bankCount r

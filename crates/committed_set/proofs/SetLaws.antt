@@ -15,7 +15,7 @@ use lib.Pow.{pow-lt, pow-mono, pow-add, shl-shr, shr-shr}
 use Rattle.fields.proofs.Tests.{le-or-lt}
 use Rattle.record.specs.Layout.{imageCount}
 use Rattle.record.specs.Every.{below}
-use Rattle.committed_set.specs.Set.{joined, missing}
+use Rattle.committed_set.specs.Set.{setBits, joined, missing}
 use Rattle.committed_set.specs.SetLaws.{inSet, everyIn, absent}
 use Rattle.committed_set.proofs.Bits.{ones-in}
 
@@ -86,10 +86,10 @@ none-absent (suc n) s =
     (bit (s / 2 ^ n))
 
 -- the count that 27 tells
-pub missing-law : (set : ℕ) (r : List ℕ) → imageCount r ≤ 32 → set < 2 ^ imageCount r → missing set r ≡ absent (imageCount r) set
+pub missing-law : (set : ℕ) (r : List ℕ) → imageCount r ≤ setBits → set < 2 ^ imageCount r → missing set r ≡ absent (imageCount r) set
 unfolding missing
 missing-law set r l h =
-    rw (ones-in 32 set (lt-of-lt-of-le h (pow-mono l)), ← ones-in (imageCount r) set h) (omega (arith, counted (imageCount r) set))
+    rw (ones-in setBits set (lt-of-lt-of-le h (pow-mono l)), ← ones-in (imageCount r) set h) (omega (arith, counted (imageCount r) set))
 
 -- the bits of a power of 2
 power-bit : (i j : ℕ) → 2 ^ i / 2 ^ j % 2 ≡ cond (eqb i j) 1 0

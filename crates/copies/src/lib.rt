@@ -8,6 +8,7 @@ ghost use mathlib.Core.Path.{_≡_};
 ghost use Prim.Native.Nat.{_≤_};
 ghost use lib.ListN.{length};
 ghost use Rattle.fields.specs.Guid.{same};
+ghost use Rattle.record.specs.Layout.{areaSize};
 ghost use Rattle.copies.specs.Copies.{sourceOf, recordsEqual, soundAndEqual};
 ghost use Rattle.copies.specs.declared.Source.the-variants.{Copy0};
 
@@ -20,7 +21,7 @@ pub enum Source {
 
 // The copy that is read: copy 0 if sound, else copy 1 if sound.
 pub fn read_source(area: &[u8]) -> Source
-    requires { ⌜ length (now area) ≡ 16384 ⌝ }
+    requires { ⌜ length (now area) ≡ areaSize ⌝ }
     ensures { λ s. ⌜ s ≡ sourceOf (now (area .entry)) ⌝ }
 {
     if sound_copy(&area[0..COPY]) {
@@ -52,7 +53,7 @@ fn same_bytes(x: &[u8], y: &[u8]) -> bool
 
 // Whether the records in the two copies are the same, byte for byte.
 pub fn records_equal(area: &[u8]) -> bool
-    requires { ⌜ length (now area) ≡ 16384 ⌝ }
+    requires { ⌜ length (now area) ≡ areaSize ⌝ }
     ensures { λ b. ⌜ b ≡ recordsEqual (now (area .entry)) ⌝ }
 {
     same_bytes(record_in_copy0(area), record_in_copy1(area))
@@ -60,7 +61,7 @@ pub fn records_equal(area: &[u8]) -> bool
 
 // Whether copy 1 is sound too, and its record the same as that of copy 0, which is sound.
 pub fn second_agrees(area: &[u8]) -> bool
-    requires { ⌜ (length (now area) ≡ 16384) × (sourceOf (now area) ≡ Copy0) ⌝ }
+    requires { ⌜ (length (now area) ≡ areaSize) × (sourceOf (now area) ≡ Copy0) ⌝ }
     ensures { λ b. ⌜ b ≡ soundAndEqual (now (area .entry)) ⌝ }
 {
     if sound_copy(&area[COPY..AREA]) {

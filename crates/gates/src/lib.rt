@@ -8,6 +8,7 @@ use refusals::Refusal;
 use stores::STORE_NUMBERS;
 ghost use mathlib.Core.Path.{_≡_};
 ghost use lib.ListN.{length};
+ghost use Rattle.record.specs.Layout.{areaSize};
 ghost use Rattle.copies.specs.Copies.{sourceOf};
 ghost use Rattle.copies.specs.declared.Source.the-variants.{Copy0};
 ghost use Rattle.gates.specs.Gates.{areaGate, equalGate};
@@ -30,7 +31,7 @@ pub enum Line {
 
 // 22, where copy 0 is sound.
 fn admit_equal(area: &[u8]) -> Gate
-    requires { ⌜ (length (now area) ≡ 16384) × (sourceOf (now area) ≡ Copy0) ⌝ }
+    requires { ⌜ (length (now area) ≡ areaSize) × (sourceOf (now area) ≡ Copy0) ⌝ }
     ensures { λ g. ⌜ g ≡ equalGate (now (area .entry)) ⌝ }
 {
     if !second_agrees(area) {

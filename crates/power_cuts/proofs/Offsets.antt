@@ -14,6 +14,7 @@ use Rattle.copies.specs.declared.Source.{Source}
 use Rattle.copies.specs.declared.Source.the-variants.{Copy0, Copy1, Neither}
 use Rattle.copies.proofs.Reading.{from-copy0, from-copy1}
 use Rattle.stores.specs.Stores.{Store, store, shift, storeNumbers, otherWords, differing, writes, plan}
+use Rattle.stores.specs.Added.{copyPairs}
 use Rattle.power_cuts.specs.Version2.{otherStores, repairStores}
 use Rattle.alterations.specs.ChangeStores.{copyStores, changeStores}
 use Rattle.power_cuts.specs.Offsets.{Placed, Each, InEither, StoreRules}
@@ -80,7 +81,7 @@ module _ (c r : List ℕ) (h : sound r ≡ true) where
   into1 : Each (InEither (length r)) (plan copySize c r)
   into1 = each-weaken (Placed copySize (length r)) (InEither (length r)) (plan copySize c r) (λ s p. inr p) (into copySize refl)
 
-  few : (base : ℕ) → length (plan base c r) ≤ 1035
+  few : (base : ℕ) → length (plan base c r) ≤ copyPairs
   few base = omega (arith, count base c r (omega (arith, in-words r h)), record-high r h)
 
 -- ---- a change
@@ -88,7 +89,7 @@ spared-placed : (P : Store → Type 0) (t : Bool) (ss : List Store) → Each P s
 spared-placed P true ss p = tt
 spared-placed P false ss p = p
 
-spared-few : (t : Bool) (ss : List Store) → length ss ≤ 1035 → length (cond t [] ss) ≤ 1035
+spared-few : (t : Bool) (ss : List Store) → length ss ≤ copyPairs → length (cond t [] ss) ≤ copyPairs
 spared-few true ss h = omega arith
 spared-few false ss h = h
 
@@ -116,7 +117,7 @@ other-placed a Copy0 e = into1 (copy1 a) (recordOf (copy0 a)) (from-copy0 a e)
 other-placed a Copy1 e = into0 (copy0 a) (recordOf (copy1 a)) (from-copy1 a e)
 other-placed a Neither e = tt
 
-other-few : (a : List ℕ) (s : Source) → sourceOf a ≡ s → length (otherStores s a) ≤ 1035
+other-few : (a : List ℕ) (s : Source) → sourceOf a ≡ s → length (otherStores s a) ≤ copyPairs
 unfolding otherStores readFrom
 other-few a Copy0 e = few (copy1 a) (recordOf (copy0 a)) (from-copy0 a e) copySize
 other-few a Copy1 e = few (copy0 a) (recordOf (copy1 a)) (from-copy1 a e) 0

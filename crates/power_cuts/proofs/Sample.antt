@@ -14,7 +14,7 @@ use Rattle.fields.proofs.Tests.{both}
 use Rattle.fields.proofs.Bytes.{append-bytes}
 use Rattle.crc.specs.Crc.{step, steps, withByte, withBytes, crc32Of}
 use Rattle.record.specs.Every.{below}
-use Rattle.record.specs.Layout.{areaSize}
+use Rattle.record.specs.Layout.{areaSize, copySize}
 use Rattle.record.specs.Rules as rule
 use Rattle.copies.specs.Copies.{soundAndEqual}
 use Rattle.power_cuts.specs.Theorem.{BothHold}
@@ -65,7 +65,7 @@ sampleCopy = sampleRecord ++ replicate 8072 0
 unfoldable pub sampleArea : List ℕ
 sampleArea = sampleCopy ++ sampleCopy
 
-copy-length : length sampleCopy ≡ 8192
+copy-length : length sampleCopy ≡ copySize
 unfolding sampleCopy sampleRecord
 copy-length = length-append sampleRecord (replicate 8072 0) ∙ omega (arith, length-replicate {A = ℕ} 8072 0)
 

@@ -5,7 +5,6 @@ use mathlib.Core.Bool.{Bool, true, false, cond, _&&_}
 use mathlib.Core.Option.{Option, none, some}
 use mathlib.Core.List.{List, [], _++_}
 use Prim.Native.Nat.{ℕ, _+_, _*_, _≤_}
-use native.Mathlib.Nat.{mul-comm, mul-assoc}
 use native.Mathlib.Omega.{arith}
 use borrow.Author.Tests.{le-leb, eq-eqb}
 use lib.Dec.{leb}
@@ -19,10 +18,10 @@ use Rattle.fields.proofs.Tests.{both}
 use Rattle.refusals.specs.declared.Refusal.the-variants.{NoSoundCopy}
 use Rattle.session.specs.Outcome.{Outcome, refusedWith}
 use Rattle.session.specs.declared.Session.the-variants.{Restart}
-use Rattle.record.specs.Layout.{areaSize, copySize, headerSize, size, bankCount, imageCount, recordOf, copy0, copy1}
+use Rattle.record.specs.Layout.{areaSize, copySize, headerSize, recordLimit, size, bankCount, imageCount, recordOf, copy0, copy1}
 use Rattle.record.specs.Rules.{sound, soundCopy}
 use Rattle.record.specs.Sized.{Sized}
-use Rattle.record.proofs.Sizes.{at-most}
+use Rattle.record.proofs.Sizes as sizes
 use Rattle.record.proofs.Sound.{sound-sized, sound-version, sound-size}
 use Rattle.copies.specs.Copies.{sourceOf, readFrom, recordsEqual, soundAndEqual}
 use Rattle.copies.specs.declared.Source.{Source}
@@ -44,19 +43,13 @@ use Rattle.power_cuts.proofs.Theorem.{power-cuts}
 le-append : (n : ℕ) (r t : List ℕ) (o : ℕ) → o + n ≤ length r → le n (r ++ t) o ≡ le n r o
 le-append n r t o h = le-same n (r ++ t) r o o (λ k lt. List·getD-append r t 0 (o + k) (omega arith))
 
-fours : (n b : ℕ) → n * (32 + 24 * b) ≡ 4 * (n * (8 + 6 * b))
-fours n b =
-    ap (λ (k : ℕ). n * k) (let z : 32 + 24 * b ≡ (8 + 6 * b) * 4 = omega arith in z)
-    ∙ sym (mul-assoc n (8 + 6 * b) 4)
-    ∙ mul-comm (n * (8 + 6 * b)) 4
-
 module _ (r : List ℕ) (h : sound r ≡ true) where
   abbrev sized : Sized r (bankCount r) (imageCount r)
   sized = sound-sized r h
 
   -- the record's length, in words
   pub in-words : length r ≡ 4 * (10 + imageCount r * (8 + 6 * bankCount r))
-  in-words = omega (arith, sized .long, fours (imageCount r) (bankCount r))
+  in-words = sizes.in-words r (bankCount r) (imageCount r) sized
 
   told : (t : List ℕ) → recordLength (r ++ t) ≡ length r
   told t =
@@ -68,10 +61,8 @@ module _ (r : List ℕ) (h : sound r ≡ true) where
   unfolding le
   marked = omega (arith, sound-version r h)
 
-  pub record-high : length r ≤ 4136
-  record-high =
-      let k : 32 + 24 * bankCount r ≤ 128 = omega (arith, sized .banks-high) in
-      omega (arith, sized .long, at-most (imageCount r) (32 + 24 * bankCount r) 32 128 (sized .images-high) k)
+  pub record-high : length r ≤ recordLimit
+  record-high = sizes.record-high r (bankCount r) (imageCount r) sized
 
 pub version2-laws : FormatLaws version2
 unfolding version2

@@ -5,7 +5,7 @@ use Prim.Native.Nat.{ℕ, suc, _+_, _*_, _≤_, _<_}
 use native.Mathlib.Nat.{mul-le-mul, suc-mul, mul-assoc, mul-comm}
 use native.Mathlib.Omega.{arith}
 use lib.ListN.{length}
-use Rattle.record.specs.Layout.{headerSize, entrySize, entryAt, recordSize}
+use Rattle.record.specs.Layout.{headerSize, bankLimit, imageLimit, recordLimit, entrySize, entryAt, recordSize}
 use Rattle.record.specs.Sized.{Sized}
 
 -- a product of two numbers with limits
@@ -25,7 +25,7 @@ bank-in r banks images i b s h k = omega (arith, entry-in banks images i h, s .l
 pub guid-in : (r : List ℕ) (banks images i : ℕ) → Sized r banks images → i < images → entryAt banks i + 16 ≤ length r
 guid-in r banks images i s h = omega (arith, entry-in banks images i h, s .long)
 
-pub header-in : (r : List ℕ) (banks images : ℕ) → Sized r banks images → 40 ≤ length r
+pub header-in : (r : List ℕ) (banks images : ℕ) → Sized r banks images → headerSize ≤ length r
 header-in r banks images s = omega (arith, s .long)
 
 fours : (n b : ℕ) → n * (32 + 24 * b) ≡ 4 * (n * (8 + 6 * b))
@@ -33,10 +33,10 @@ fours n b =
     let z : 32 + 24 * b ≡ (8 + 6 * b) * 4 = omega arith in
     ap (λ (k : ℕ). n * k) z ∙ sym (mul-assoc n (8 + 6 * b) 4) ∙ mul-comm (n * (8 + 6 * b)) 4
 
--- a record is whole words, at most 4,136 bytes of them
+-- a record is whole words, and has a limit
 pub in-words : (r : List ℕ) (banks images : ℕ) → Sized r banks images → length r ≡ 4 * (10 + images * (8 + 6 * banks))
 in-words r banks images s = omega (arith, s .long, fours images banks)
 
-pub record-high : (r : List ℕ) (banks images : ℕ) → Sized r banks images → length r ≤ 4136
+pub record-high : (r : List ℕ) (banks images : ℕ) → Sized r banks images → length r ≤ recordLimit
 record-high r banks images s =
-    omega (arith, s .long, at-most images (entrySize banks) 32 128 (s .images-high) (omega (arith, s .banks-high)))
+    omega (arith, s .long, at-most images (entrySize banks) imageLimit (entrySize bankLimit) (s .images-high) (omega (arith, s .banks-high)))

@@ -103,6 +103,10 @@ entrySize banks = 32 + 24 * banks
 abbrev pub recordSize : ℕ → ℕ → ℕ
 recordSize banks images = headerSize + images * entrySize banks
 
+-- the longest record that the two counts allow: 4,136 bytes. Facts about the length of a record are stated over it
+abbrev pub recordLimit : ℕ
+recordLimit = recordSize bankLimit imageLimit
+
 -- "Entries start at 40": the entry of image i
 abbrev pub entryAt : ℕ → ℕ → ℕ
 entryAt banks i = headerSize + i * entrySize banks

@@ -4,7 +4,7 @@ use fields::read32;
 ghost use mathlib.Core.Path.{_≡_};
 ghost use Prim.Native.Nat.{_≤_};
 ghost use lib.ListN.{length};
-ghost use Rattle.record.specs.Layout.{copy0, copy1, recordOf, entryAt};
+ghost use Rattle.record.specs.Layout.{areaSize, copy0, copy1, headerSize, bankLimit, imageLimit, recordLimit, recordOf, entryAt};
 
 // The lengths of an area, of a copy and of a record's header.
 pub const AREA: usize = 16384;
@@ -15,7 +15,7 @@ pub const HEADER: usize = 40;
 
 // The record in a copy: as many bytes as its size says, and the header in any case.
 pub fn record_in(c: &[u8]) -> &[u8]
-    requires { ⌜ 40 ≤ length (now c) ⌝ }
+    requires { ⌜ headerSize ≤ length (now c) ⌝ }
     ensures { λ r. ⌜ now r ≡ recordOf (now (c .entry)) ⌝ }
 {
     let n = read32(c, 16) as usize;
@@ -30,7 +30,7 @@ pub fn record_in(c: &[u8]) -> &[u8]
 
 // The record in copy 0 of an area.
 pub fn record_in_copy0(area: &[u8]) -> &[u8]
-    requires { ⌜ length (now area) ≡ 16384 ⌝ }
+    requires { ⌜ length (now area) ≡ areaSize ⌝ }
     ensures { λ r. ⌜ now r ≡ recordOf (copy0 (now (area .entry))) ⌝ }
 {
     record_in(&area[0..COPY])
@@ -38,7 +38,7 @@ pub fn record_in_copy0(area: &[u8]) -> &[u8]
 
 // The record in copy 1.
 pub fn record_in_copy1(area: &[u8]) -> &[u8]
-    requires { ⌜ length (now area) ≡ 16384 ⌝ }
+    requires { ⌜ length (now area) ≡ areaSize ⌝ }
     ensures { λ r. ⌜ now r ≡ recordOf (copy1 (now (area .entry))) ⌝ }
 {
     record_in(&area[COPY..AREA])
@@ -46,8 +46,8 @@ pub fn record_in_copy1(area: &[u8]) -> &[u8]
 
 // The offset of the entry of image i.
 pub fn entry_at(banks: usize, i: usize) -> usize
-    requires { ⌜ (banks ≤ 4) × (i ≤ 32) ⌝ }
-    ensures { λ at. ⌜ (at ≡ entryAt banks i) × (at ≤ 4136) ⌝ }
+    requires { ⌜ (banks ≤ bankLimit) × (i ≤ imageLimit) ⌝ }
+    ensures { λ at. ⌜ (at ≡ entryAt banks i) × (at ≤ recordLimit) ⌝ }
 {
     HEADER + i * (32 + 24 * banks)
 }

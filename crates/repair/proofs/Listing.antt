@@ -8,22 +8,19 @@ use lib.ListN.{length}
 use Rattle.record.specs.Layout.{copySize, bankCount, imageCount, recordOf, copy0, copy1}
 use Rattle.record.specs.Rules.{sound}
 use Rattle.record.proofs.Sound.{sound-sized}
-use Rattle.record.proofs.Sizes.{in-words, record-high, header-in}
 use Rattle.copies.specs.Copies.{readFrom, soundAndEqual}
 use Rattle.copies.specs.declared.Source.the-variants.{Copy0, Copy1}
 use Rattle.session.specs.Outcome.{acceptedWith}
 use Rattle.session.specs.declared.Session.the-variants.{Restart}
-use Rattle.stores.specs.Stores.{Store, plan, withList}
+use Rattle.stores.specs.Stores.{Store, storeNumbers, plan, withList}
 use Rattle.stores.specs.Added.{Added, Listable}
 use Rattle.stores.proofs.Laid.{added-all, withList-none}
+use Rattle.stores.proofs.Listable as any
 use Rattle.repair.specs.Repair.{repairStores, listed, repairedAt}
 
-pub listable : (c r : List ℕ) (base room : ℕ) → sound r ≡ true → length c ≡ 8192 → base ≤ 8192 → 4200 ≤ room → Listable c r base 0 room
-listable c r base room e lc lb lr =
-    let s = sound-sized r e in
-    let w = in-words r (bankCount r) (imageCount r) s in
-    let h = record-high r (bankCount r) (imageCount r) s in
-    record { low = omega arith; high = omega arith; words = omega arith; inside = omega arith; at = lb; fits = omega arith }
+-- from the front of the slice
+pub listable : (c r : List ℕ) (base room : ℕ) → sound r ≡ true → length c ≡ copySize → base ≤ copySize → storeNumbers ≤ room → Listable c r base 0 room
+listable c r base room e lc lb lr = any.listable c r (bankCount r) (imageCount r) base 0 room (sound-sized r e) lc lb (omega arith) lr
 
 -- a list that was added to the front of the slice
 was-listed : (n : ℕ) (ss : List Store) (s new : List ℕ) → Added 0 n ss s new → (acceptedWith Restart n, new) ≡ listed ss s

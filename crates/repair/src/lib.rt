@@ -15,14 +15,16 @@ ghost use mathlib.Core.Path.{_≡_};
 ghost use mathlib.Core.Bool.{true};
 ghost use Prim.Native.Nat.{_≤_};
 ghost use lib.ListN.{length};
+ghost use Rattle.record.specs.Layout.{areaSize};
 ghost use Rattle.copies.specs.Copies.{sourceOf};
 ghost use Rattle.copies.specs.declared.Source.the-variants.{Copy0, Copy1};
+ghost use Rattle.stores.specs.Stores.{storeNumbers};
 ghost use Rattle.session.specs.Outcome.{outcomeOf};
 ghost use Rattle.repair.specs.Repair.{repairedAt, repaired};
 
 // The record of copy 0 into copy 1, where they are not sound and equal.
 fn repair_second(area: &[u8], out: &mut [u32]) -> Answer
-    requires { ⌜ (length (now area) ≡ 16384) × (4200 ≤ length (now out)) × (sourceOf (now area) ≡ Copy0) ⌝ }
+    requires { ⌜ (length (now area) ≡ areaSize) × (storeNumbers ≤ length (now out)) × (sourceOf (now area) ≡ Copy0) ⌝ }
     ensures { λ r. ⌜ (outcomeOf r, now (out .exit)) ≡ repairedAt Copy0 (now (area .entry)) (now (out .entry)) ⌝ }
 {
     if second_agrees(area) {
@@ -35,7 +37,7 @@ fn repair_second(area: &[u8], out: &mut [u32]) -> Answer
 
 // The record of copy 1 into copy 0, which is not sound.
 fn repair_first(area: &[u8], out: &mut [u32]) -> Answer
-    requires { ⌜ (length (now area) ≡ 16384) × (4200 ≤ length (now out)) × (sourceOf (now area) ≡ Copy1) ⌝ }
+    requires { ⌜ (length (now area) ≡ areaSize) × (storeNumbers ≤ length (now out)) × (sourceOf (now area) ≡ Copy1) ⌝ }
     ensures { λ r. ⌜ (outcomeOf r, now (out .exit)) ≡ repairedAt Copy1 (now (area .entry)) (now (out .entry)) ⌝ }
 {
     let r = record_in_copy1(area);

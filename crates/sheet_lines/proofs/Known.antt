@@ -10,7 +10,7 @@ use lib.Dec.{eqb, leb, ltb}
 use lib.ListN.{length}
 use Rattle.fields.proofs.Tests.{either}
 use Rattle.record.specs.Every.{below}
-use Rattle.record.specs.Layout.{bankLimit, active, previous, size, state, bankCount, imageCount, acceptedAt, accepted}
+use Rattle.record.specs.Layout.{headerSize, bankLimit, imageLimit, recordLimit, active, previous, size, state, bankCount, imageCount, acceptedAt, accepted}
 use Rattle.record.specs.Rules.{invalid, valid, acceptedBank, acceptedRule, stateKnown, stateAllowed, statesRule, rules, sound}
 use Rattle.record.proofs.Below.{below-each}
 use Rattle.record.proofs.Sizes.{header-in, bank-in, record-high}
@@ -29,22 +29,22 @@ allowed-state s true e = known-state s e
 allowed-state s false e = omega (arith, eqb-true s invalid e)
 
 module _ (r : List ℕ) (e : sound r ≡ true) where
-  pub header : 40 ≤ length r
+  pub header : headerSize ≤ length r
   header = header-in r (bankCount r) (imageCount r) (sound-sized r e)
 
-  pub few-banks : bankCount r ≤ 4
+  pub few-banks : bankCount r ≤ bankLimit
   few-banks = sound-sized r e .banks-high
 
-  pub few-images : imageCount r ≤ 32
+  pub few-images : imageCount r ≤ imageLimit
   few-images = sound-sized r e .images-high
 
-  pub small-size : size r ≤ 4136
+  pub small-size : size r ≤ recordLimit
   small-size = omega (arith, record-high r (bankCount r) (imageCount r) (sound-sized r e), sound-size r e)
 
-  pub small-active : active r < 4
+  pub small-active : active r < bankLimit
   small-active = omega (arith, sound-named r e .0, few-banks)
 
-  pub small-previous : previous r < 4
+  pub small-previous : previous r < bankLimit
   small-previous = omega (arith, sound-named r e .1, few-banks)
 
   -- the accepted field of an image in a bank lies in the record, and is 0 or 1

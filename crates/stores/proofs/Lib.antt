@@ -1,2 +1,3 @@
 -- Laws of lists of stores, for the proofs here and in the crates above.
 pub mod Laid
+pub mod Listable

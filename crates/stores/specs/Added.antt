@@ -5,6 +5,7 @@ use mathlib.Core.List.{List, [], _∷_, _++_, map}
 use mathlib.Core.Path.{_≡_}
 use lib.Dec.{eqb}
 use lib.ListN.{length}
+use Rattle.record.specs.Layout.{copySize, recordLimit}
 use Rattle.stores.specs.Stores.{Store, store, shift, differing, withList}
 
 -- the slice held k stores at its front and holds n now: the same, and then ts
@@ -21,11 +22,15 @@ wordStore base o old w = cond (eqb old w) [] ((base + o, w) ∷ [])
 abbrev pub stored : ℕ → List ℕ → List ℕ → List ℕ → List Store
 stored base c r os = map (shift base) (map (store r) (differing c r os))
 
+-- how many pairs the list into one copy has at most: a store for each word of the longest record, and one more
+abbrev pub copyPairs : ℕ
+copyPairs = recordLimit / 4 + 1
+
 -- a record that can be listed: whole words, the version among them, in the copy; and room for every word and one store more
 pub record Listable (c r : List ℕ) (base k room : ℕ) : Type 0 where
   pub low : 8 ≤ length r
-  pub high : length r ≤ 8192
+  pub high : length r ≤ copySize
   pub words : 4 * (length r / 4) ≡ length r
   pub inside : length r ≤ length c
-  pub at : base ≤ 8192
+  pub at : base ≤ copySize
   pub fits : 2 * (k + length r / 4 + 1) ≤ room

@@ -5,6 +5,7 @@ ghost use mathlib.Core.Path.{_≡_};
 ghost use mathlib.Core.List.{[], _∷_};
 ghost use Prim.Native.Nat.{_+_, _*_, _-_, _/_, _≤_};
 ghost use lib.ListN.{length};
+ghost use Rattle.record.specs.Layout.{copySize};
 ghost use Rattle.stores.specs.Stores.{offsets, plan};
 ghost use Rattle.stores.specs.Added.{Added, wordStore, stored, Listable};
 
@@ -23,7 +24,7 @@ pub fn put_pair(out: &mut [u32], k: usize, o: u32, w: u32) -> usize
 
 // The word w at o, if the copy holds another there, which is `old`.
 pub fn put_differing(old: u32, w: u32, base: u32, out: &mut [u32], k: usize, o: usize) -> usize
-    requires { ⌜ (o ≤ 8192) × (base ≤ 8192) × (2 * k + 2 ≤ length (now out)) ⌝ }
+    requires { ⌜ (o ≤ copySize) × (base ≤ copySize) × (2 * k + 2 ≤ length (now out)) ⌝ }
     ensures { λ n. ⌜ Added k n (wordStore base o old w) (now (out .entry)) (now (out .exit)) × (n ≤ k + 1) ⌝ }
 {
     if old == w {

@@ -5,7 +5,7 @@ use native.Mathlib.Omega.{arith}
 use borrow.Author.Needs.{needs}
 use lib.ListN.{length}
 use lib.Seq.{length-take-le}
-use Rattle.record.specs.Layout.{recordOf, copy0}
+use Rattle.record.specs.Layout.{copySize, headerSize, recordOf, copy0}
 use Rattle.record.proofs.Copies.{record-long}
 use Rattle.change_lists.proofs.Listing.{alterable, listed-none, stores-both}
 use Rattle.change_lists.proofs.list_change.Statement.{statement}
@@ -22,7 +22,7 @@ shared-slice-read-banks c =
     let A = a .area .now in
     let R = rd .record-in-copy0 .result .now in
     let e : R ≡ recordOf (copy0 A) = rd .record-in-copy0 .ensures in
-    let h : 40 ≤ length R = rw e (record-long (copy0 A) (rw (length-take-le 8192 A (omega (arith, s .pre .0 .long))) (omega arith))) in
+    let h : headerSize ≤ length R = rw e (record-long (copy0 A) (rw (length-take-le copySize A (omega (arith, s .pre .0 .long))) (omega arith))) in
     omega (arith, h)
 
 cast-banks : tie.Need-cast-banks

@@ -4,10 +4,11 @@ use native.Mathlib.Omega.{arith}
 use borrow.Author.Needs.{needs}
 use lib.ListN.{length, drop, length-drop}
 use lib.Seq.{length-take-le}
-use Rattle.record.specs.Layout.{copySize, copy0, copy1}
+use Rattle.record.specs.Layout.{copySize, imageCount, copy0, copy1}
 use Rattle.stores.specs.Stores.{plan}
 use Rattle.alterations.specs.Altered.{newRecord}
-use Rattle.change_lists.proofs.Listing.{listable, short, listed-then}
+use Rattle.stores.proofs.Listable.{listable, short}
+use Rattle.change_lists.proofs.Listing.{listed-then}
 use Rattle.change_lists.proofs.put_both.Statement.{statement}
 use Rattle.change_lists.proofs.put_both.Tie as tie
 
@@ -27,7 +28,8 @@ put-change-requires c κs =
     let A = a .area .now in (
       s .pre .0,
       s .pre .1,
-      listable (a .x) (a .r .now) (a .banks) (s .pre .0) (copy0 A) 0 0 (length (a .out .now)) (length-take-le 8192 A (omega (arith, s .pre .2))) (omega arith) (omega arith) (s .pre .3),
+      listable (copy0 A) (a .r .now) (a .banks) (imageCount (a .r .now)) 0 0 (length (a .out .now)) (s .pre .0 .sized)
+          (length-take-le copySize A (omega (arith, s .pre .2))) (omega arith) (omega arith) (s .pre .3),
     )
 
 sub-put-change-2 : tie.Need-sub-put-change-2
@@ -46,11 +48,13 @@ put-change-requires-2 c κs =
     let a = s .args in
     let A = a .area .now in
     let f = q .put-change .last .1 .1 .1 .1 .1 .1 .0 in
-    let long : 8192 ≤ length (drop 8192 A) = rw length-drop (omega (arith, s .pre .2)) in (
+    let long : copySize ≤ length (drop copySize A) = rw length-drop (omega (arith, s .pre .2)) in (
       s .pre .0,
       s .pre .1,
-      listable (a .x) (a .r .now) (a .banks) (s .pre .0) (copy1 A) 8192 (q .put-change .result) (length f) (length-take-le 8192 (drop 8192 A) long) (omega arith)
-          (omega (arith, q .put-change .ensures .1, short (a .x) (a .r .now) (a .banks) (s .pre .0))) (rw (q .put-change .ensures .0 .kept) (s .pre .3)),
+      listable (copy1 A) (a .r .now) (a .banks) (imageCount (a .r .now)) copySize (q .put-change .result) (length f) (s .pre .0 .sized)
+          (length-take-le copySize (drop copySize A) long) (omega arith)
+          (omega (arith, q .put-change .ensures .1, short (a .r .now) (a .banks) (imageCount (a .r .now)) (s .pre .0 .sized)))
+          (rw (q .put-change .ensures .0 .kept) (s .pre .3)),
     )
 
 same-length : tie.Need-same-length

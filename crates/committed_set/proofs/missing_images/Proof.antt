@@ -2,7 +2,7 @@
 use native.Mathlib.Omega.{arith}
 use lib.Count.{ones-le}
 use Rattle.record.specs.Layout.{imageCount}
-use Rattle.committed_set.specs.Set.{missing}
+use Rattle.committed_set.specs.Set.{setBits, missing}
 use Rattle.committed_set.proofs.Bits.{ones-in}
 use Rattle.committed_set.proofs.Known.{known}
 use borrow.Author.Needs.{needs}
@@ -20,7 +20,7 @@ sub-result c = let s = c .before .before in rw (c .read16 .ensures) (ones-le (im
 
 returns : tie.Need-returns
 unfolding missing
-returns c = let s = c .before .before in rw (ones-in 32 (s .args .set) (s .fits .set .fits), c .read16 .ensures)
+returns c = let s = c .before .before in rw (ones-in setBits (s .args .set) (s .fits .set .fits), c .read16 .ensures)
 
 pub missing-images-spec : {M : Type 1} → statement M
 missing-images-spec = tie.close (tie.spec read16-requires cast-images sub-result returns)

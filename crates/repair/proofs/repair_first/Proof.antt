@@ -32,7 +32,7 @@ list-copy-requires c κs =
     let s = rd .before .before .before in
     let a = s .args .area .now in
     rw (rd .record-in-copy1 .ensures)
-    (listable (copy0 a) (recordOf (copy1 a)) 0 (length (s .args .out .now)) (from-copy1 a (s .pre .2)) (length-take-le 8192 a (omega arith)) (omega arith) (s .pre .1))
+    (listable (copy0 a) (recordOf (copy1 a)) 0 (length (s .args .out .now)) (from-copy1 a (s .pre .2)) (length-take-le copySize a (omega arith)) (omega arith) (s .pre .1))
 
 accepted-requires : tie.Need-accepted-requires
 accepted-requires c κs = search needs

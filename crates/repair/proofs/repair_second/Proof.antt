@@ -45,7 +45,7 @@ list-copy-requires c κs =
     let a = s .args .area .now in
     rw (rd .record-in-copy0 .ensures)
     (listable (copy1 a) (recordOf (copy0 a)) copySize (length (s .args .out .now)) (from-copy0 a (s .pre .2))
-    (length-take-le 8192 (drop 8192 a) (rw length-drop (omega arith))) (omega arith) (s .pre .1))
+    (length-take-le copySize (drop copySize a) (rw length-drop (omega arith))) (omega arith) (s .pre .1))
 
 accepted-requires-2 : tie.Need-accepted-requires-2
 accepted-requires-2 c κs = search needs
