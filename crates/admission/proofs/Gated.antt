@@ -12,7 +12,7 @@ use Rattle.gates.specs.declared.Gate.{Gate}
 use Rattle.gates.specs.declared.Gate.the-variants.{Open, Shut}
 use Rattle.gates.specs.Gates.{areaGate}
 use Rattle.gates.proofs.Gates.{gate-open}
-use Rattle.committed_set.specs.Set.{setFits}
+use Rattle.committed_set.specs.Set.{stagedFits}
 use Rattle.committed_set.proofs.Fits.{set-below}
 use Rattle.admission.specs.Lines.{andThen, stagedGate}
 
@@ -28,5 +28,5 @@ both-open (Shut why) b e = let q : _≡_ {A = ℕ} 0 1 = cc in absurd (omega ari
 pub staged-open : (bank set : ℕ) (a s : List ℕ) → stagedGate bank set a (length s) ≡ Open → Changeable a s × (set < 2 ^ imageCount (recordOf (copy0 a)))
 unfolding stagedGate
 staged-open bank set a s e =
-    let p = both-open (areaGate a (length s)) (setFits bank set (recordOf (copy0 a))) e in
+    let p = both-open (areaGate a (length s)) (stagedFits bank set (recordOf (copy0 a))) e in
     (area-open a s (p .0), set-below bank set (recordOf (copy0 a)) (p .1))

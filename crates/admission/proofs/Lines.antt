@@ -5,7 +5,7 @@ use Prim.Native.Nat.{ℕ, _≤_, _<_}
 use borrow.Author.Tests.{lt-ltb, le-ltb}
 use Rattle.refusals.specs.declared.Refusal.the-variants.{NoImage}
 use Rattle.record.specs.Layout.{recordOf, copy0, imageCount}
-use Rattle.alterations.specs.Altered.{Listed}
+use Rattle.alterations.specs.Altered.{AtFront}
 use Rattle.alterations.specs.ChangeStores.{changeStores}
 use Rattle.changes.specs.NewRecord.{imageWith}
 use Rattle.gates.specs.declared.Line.{Line}
@@ -13,7 +13,7 @@ use Rattle.gates.specs.declared.Line.the-variants.{Refused}
 use Rattle.admission.specs.Lines.{Lined, listed, ofImage}
 
 -- a change whose stores were listed
-pub was-listed : (to : ℕ → Line) (a new s e : List ℕ) (n : ℕ) → Listed n (changeStores a new) s e → (to n, e) ≡ listed to a new s
+pub was-listed : (to : ℕ → Line) (a new s e : List ℕ) (n : ℕ) → AtFront n (changeStores a new) s e → (to n, e) ≡ listed to a new s
 unfolding listed
 was-listed to a new s e n h = rw (h .count, h .lists)
 

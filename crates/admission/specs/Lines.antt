@@ -16,7 +16,7 @@ use Rattle.gates.specs.declared.Gate.the-variants.{Open, Shut}
 use Rattle.gates.specs.declared.Line.{Line}
 use Rattle.gates.specs.declared.Line.the-variants.{Refused}
 use Rattle.gates.specs.Gates.{areaGate}
-use Rattle.committed_set.specs.Set.{setFits}
+use Rattle.committed_set.specs.Set.{stagedFits}
 
 -- past an open gate there is more to test
 unfoldable pub andThen : Gate → (rest : Gate) → Gate
@@ -26,7 +26,7 @@ andThen (Shut why) rest = Shut why
 -- 20, 23, 21, 22, then 24 of a Staging session with that bank and set
 unfoldable pub stagedGate : (bank set : ℕ) (a : List ℕ) (sliceLength : ℕ) → Gate
 stagedGate bank set a sliceLength =
-    andThen (areaGate a sliceLength) (cond (not (setFits bank set (recordOf (copy0 a)))) (Shut StagingFault) Open)
+    andThen (areaGate a sliceLength) (cond (not (stagedFits bank set (recordOf (copy0 a)))) (Shut StagingFault) Open)
 
 -- what a line gives, and the store slice at exit
 abbrev pub Lined : Type 0

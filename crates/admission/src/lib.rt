@@ -18,7 +18,7 @@ ghost use lib.ListN.{length};
 ghost use Rattle.record.specs.Layout.{imageLimit, recordOf, copy0, active, previous, state, imageCount};
 ghost use Rattle.record.specs.Rules.{sound, allAccepted};
 ghost use Rattle.changes.specs.NewRecord.{updateBankOf, imageWith, marked};
-ghost use Rattle.committed_set.specs.Set.{missing, setFits};
+ghost use Rattle.committed_set.specs.Set.{missing, stagedFits};
 ghost use Rattle.admission.specs.Held.{Held};
 ghost use Rattle.admission.specs.Lines.{stagedGate};
 
@@ -43,7 +43,7 @@ fn held_record(area: &[u8]) -> &[u8]
 // `staged`, of the record that both copies hold. The functions that end in `_in` read that record.
 pub fn staged_in(area: &[u8], bank: u32, set: u32) -> bool
     requires { ⌜ Held (now area) ⌝ }
-    ensures { λ b. ⌜ b ≡ setFits bank set (recordOf (copy0 (now (area .entry)))) ⌝ }
+    ensures { λ b. ⌜ b ≡ stagedFits bank set (recordOf (copy0 (now (area .entry)))) ⌝ }
 {
     staged(held_record(area), bank, set)
 }

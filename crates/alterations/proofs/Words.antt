@@ -13,7 +13,7 @@ use Rattle.crc.specs.Crc.{crc32Of}
 use Rattle.record.specs.Layout.{versionAt, bankCount, imageCount, recordSize, acceptedAt}
 use Rattle.record.proofs.Sizes.{header-in}
 use Rattle.alterations.specs.Fields.{setActive, setPrevious, setAccepted, withCrc}
-use Rattle.alterations.specs.Altered.{flagged, alteredBy, newRecord, Alterable}
+use Rattle.alterations.specs.Altered.{flagged, alteredBy, recordWith, Alterable}
 use Rattle.alterations.specs.declared.Alteration.{Alteration}
 use Rattle.alterations.proofs.Places.{words-apart, place-in, place-before, place-apart}
 
@@ -209,30 +209,30 @@ module _ (x : Alteration) (r : List ℕ) (banks : ℕ) (a : Alterable x r banks)
   room : 0 + 4 ≤ length (alteredBy x r)
   room = omega (arith, long, altered-length)
 
-  pub new-length : length (newRecord x r) ≡ length r
+  pub new-length : length (recordWith x r) ≡ length r
   unfolding withCrc
   new-length = word-length (alteredBy x r) 0 (crc32Of (drop versionAt (alteredBy x r))) room ∙ altered-length
 
-  pub new-bytes : Bytes r → Bytes (newRecord x r)
+  pub new-bytes : Bytes r → Bytes (recordWith x r)
   unfolding withCrc
   new-bytes b =
       put-bytes (alteredBy x r) 0 (bytes 4 (crc32Of (drop versionAt (alteredBy x r)))) (altered-bytes b)
       (bytes-small 4 (crc32Of (drop versionAt (alteredBy x r))))
 
-  pub new-apart : (n o : ℕ) → 4 ≤ o → le n (newRecord x r) o ≡ le n (alteredBy x r) o
+  pub new-apart : (n o : ℕ) → 4 ≤ o → le n (recordWith x r) o ≡ le n (alteredBy x r) o
   unfolding withCrc
   new-apart n o h = word-apart (alteredBy x r) 0 (crc32Of (drop versionAt (alteredBy x r))) room n o (inr h)
 
-  pub new-crc : (q : ℕ) → q < 4294967296 → q ≡ crc32Of (drop versionAt (alteredBy x r)) → le 4 (newRecord x r) 0 ≡ q
+  pub new-crc : (q : ℕ) → q < 4294967296 → q ≡ crc32Of (drop versionAt (alteredBy x r)) → le 4 (recordWith x r) 0 ≡ q
   unfolding withCrc
   new-crc q small e = rw (← e) (read-back 4 (alteredBy x r) 0 q room small)
 
-  pub new-version : le 4 (newRecord x r) 4 ≡ le 4 r 4
+  pub new-version : le 4 (recordWith x r) 4 ≡ le 4 r 4
   new-version = new-apart 4 4 (omega arith) ∙ altered-header 4 4 (omega arith) (inl (omega arith)) (inl (omega arith))
 
-  pub new-bankCount : bankCount (newRecord x r) ≡ bankCount r
+  pub new-bankCount : bankCount (recordWith x r) ≡ bankCount r
   unfolding le
   new-bankCount = omega (arith, new-apart 1 32 (omega arith), altered-bankCount)
 
-  pub new-imageCount : imageCount (newRecord x r) ≡ imageCount r
+  pub new-imageCount : imageCount (recordWith x r) ≡ imageCount r
   new-imageCount = new-apart 2 34 (omega arith) ∙ altered-imageCount

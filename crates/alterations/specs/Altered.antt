@@ -23,9 +23,9 @@ unfoldable pub alteredBy : Alteration → List ℕ → List ℕ
 alteredBy x r =
     flagged (x .count) (x .first) (x .bank) (x .flag) (put (setPrevious (x .previous) (setActive (x .active) r)) (stateAt 0) (bytes 4 (x .states)))
 
--- the record that it makes
-abbrev pub newRecord : Alteration → List ℕ → List ℕ
-newRecord x r = withCrc (alteredBy x r)
+-- the record that it makes, its CRC worked anew
+abbrev pub recordWith : Alteration → List ℕ → List ℕ
+recordWith x r = withCrc (alteredBy x r)
 
 -- it names banks and images that the record has
 pub record Within (x : Alteration) (r : List ℕ) : Type 0 where
@@ -50,6 +50,6 @@ pub record Changeable (a d : List ℕ) : Type 0 where
   pub room : storeNumbers ≤ length d
 
 -- the list ss stands at the slice's front, n pairs; "Numbers past the list stay."
-pub record Listed (n : ℕ) (ss : List Store) (d e : List ℕ) : Type 0 where
+pub record AtFront (n : ℕ) (ss : List Store) (d e : List ℕ) : Type 0 where
   pub count : n ≡ length ss
   pub lists : e ≡ withList d ss

@@ -2,10 +2,9 @@
 -- anew."). r is the bytes of a record. Assumes nothing.
 use Prim.Native.Nat.{ℕ}
 use mathlib.Core.List.{List, [], _∷_}
-use lib.ListN.{drop}
 use Rattle.fields.specs.Number.{bytes, put}
-use Rattle.crc.specs.Crc.{crc32Of}
-use Rattle.record.specs.Layout.{crcAt, versionAt, activeAt, previousAt, stateAt, acceptedAt, bankCount}
+use Rattle.record.specs.Layout.{crcAt, activeAt, previousAt, stateAt, acceptedAt, bankCount}
+use Rattle.record.specs.Rules.{crcOf}
 
 -- one field anew, every other byte as it was
 unfoldable pub setActive : ℕ → List ℕ → List ℕ
@@ -20,6 +19,6 @@ setState b s r = put r (stateAt b) (s ∷ [])
 unfoldable pub setAccepted : (i b flag : ℕ) → List ℕ → List ℕ
 setAccepted i b flag r = put r (acceptedAt (bankCount r) i b) (bytes 4 flag)
 
--- "its CRC worked anew"; "over bytes 4 to size"
+-- "its CRC worked anew"
 unfoldable pub withCrc : List ℕ → List ℕ
-withCrc r = put r crcAt (bytes 4 (crc32Of (drop versionAt r)))
+withCrc r = put r crcAt (bytes 4 (crcOf r))

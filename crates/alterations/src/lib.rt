@@ -5,12 +5,10 @@ use crc::with_word;
 use fields::read32;
 use record::HEADER;
 ghost use mathlib.Core.Path.{_≡_};
-ghost use lib.ListN.{drop};
 ghost use Rattle.fields.specs.Guid.{same};
 ghost use Rattle.fields.specs.Number.{le};
-ghost use Rattle.crc.specs.Crc.{crc32Of};
-ghost use Rattle.record.specs.Layout.{versionAt};
-ghost use Rattle.alterations.specs.Altered.{alteredBy, newRecord, Alterable, Word};
+ghost use Rattle.record.specs.Rules.{crcOf};
+ghost use Rattle.alterations.specs.Altered.{alteredBy, recordWith, Alterable, Word};
 
 // What a call alters: the words of active, previous and the bank states, and the accepted word of `count` images from `first` on
 // in one bank.
@@ -66,7 +64,7 @@ pub fn new_word(r: &[u8], banks: usize, x: Alteration, o: usize) -> u32
 // The new record's CRC, "over bytes 4 to size".
 pub fn new_crc(r: &[u8], banks: usize, x: Alteration) -> u32
     requires { ⌜ Alterable x (now r) banks ⌝ }
-    ensures { λ q. ⌜ q ≡ crc32Of (drop versionAt (alteredBy x (now (r .entry)))) ⌝ }
+    ensures { λ q. ⌜ q ≡ crcOf (alteredBy x (now (r .entry))) ⌝ }
 {
     let mut q: u32 = ALL_ONES;
     let mut o = 4;
@@ -79,8 +77,8 @@ pub fn new_crc(r: &[u8], banks: usize, x: Alteration) -> u32
 
 // Whether the new record is the old one. crc is the new one's.
 pub fn unchanged(r: &[u8], banks: usize, x: Alteration, crc: u32) -> bool
-    requires { ⌜ Alterable x (now r) banks × (crc ≡ crc32Of (drop versionAt (alteredBy x (now r)))) ⌝ }
-    ensures { λ b. ⌜ b ≡ same (now (r .entry)) (newRecord x (now (r .entry))) ⌝ }
+    requires { ⌜ Alterable x (now r) banks × (crc ≡ crcOf (alteredBy x (now r))) ⌝ }
+    ensures { λ b. ⌜ b ≡ same (now (r .entry)) (recordWith x (now (r .entry))) ⌝ }
 {
     if read32(r, 0) != crc {
         return false;

@@ -15,7 +15,7 @@ use Rattle.record.specs.Sized.{Sized}
 use Rattle.record.proofs.Sizes.{header-in}
 use Rattle.alterations.specs.Fields.{setActive, setPrevious, setState, setAccepted}
 use Rattle.alterations.specs.Altered.{flagged}
-use Rattle.changes.specs.NewRecord.{firstUnaccepted}
+use Rattle.changes.specs.NewRecord.{unacceptedBelow}
 use Rattle.changes.proofs.Setting.{accepted-in}
 use Rattle.call_alterations.proofs.Words.{put-word, put-back, put-swap}
 
@@ -70,8 +70,8 @@ module _ (r : List ℕ) (h : 40 ≤ length r) where
         one (suc i) = omega arith
 
 -- ---- the accepted words of bank b
-pub flagged-first : (n b : ℕ) (r : List ℕ) → flagged n 0 b 0 r ≡ firstUnaccepted n b r
-unfolding flagged firstUnaccepted
+pub flagged-first : (n b : ℕ) (r : List ℕ) → flagged n 0 b 0 r ≡ unacceptedBelow n b r
+unfolding flagged unacceptedBelow
 flagged-first zero b r = refl
 flagged-first (suc n) b r = rw (zero-add n, flagged-first n b r)
 

@@ -11,7 +11,7 @@ use Rattle.record.specs.Rules.{invalid, valid, acceptedBank, allAccepted, sound
 use Rattle.record.proofs.Sound.{sound-named}
 use Rattle.alterations.specs.Fields.{setActive, setPrevious, setState, setAccepted, withCrc}
 use Rattle.alterations.specs.Altered.{alteredBy}
-use Rattle.changes.specs.NewRecord.{updateBankOf, firstUnaccepted, begunRecord, committedRecord, endedRecord, marked, acceptedRecord, exchangedRecord}
+use Rattle.changes.specs.NewRecord.{updateBankOf, unacceptedBelow, begunRecord, committedRecord, endedRecord, marked, acceptedRecord, exchangedRecord}
 use Rattle.changes.proofs.Banks.{sized, header, banks-few, update-in, update-low, active-low}
 use Rattle.call_alterations.specs.Makes.{Makes}
 use Rattle.call_alterations.proofs.Kept.{active-kept, previous-kept, states-kept, words-order, states-put, flagged-first, flagged-one, flagged-none, accepted-state}
@@ -39,7 +39,7 @@ module _ (r : List ℕ) (e : sound r ≡ true) (bs : Bytes r) where
         ap withCrc
         (rw (kept (le 4 (setState (updateBankOf r) invalid r) 24), states-put r (header r e) (updateBankOf r) invalid (update-low r e) bs (omega arith))
         (flagged-first n (updateBankOf r) (setState (updateBankOf r) invalid r)
-        ∙ ap (λ (k : ℕ). firstUnaccepted k (updateBankOf r) (setState (updateBankOf r) invalid r)) q));
+        ∙ ap (λ (k : ℕ). unacceptedBelow k (updateBankOf r) (setState (updateBankOf r) invalid r)) q));
     within = record { bank = update-in r e; images = omega arith };
   }
 

@@ -14,7 +14,7 @@ use Rattle.stores.specs.Stores.{Store, plan}
 use Rattle.stores.specs.Added.{Added}
 use Rattle.stores.proofs.Laid.{added-then, added-all, withList-none}
 use Rattle.alterations.specs.ChangeStores.{copyStores, changeStores}
-use Rattle.alterations.specs.Altered.{newRecord, Within, Alterable, Changeable, Listed}
+use Rattle.alterations.specs.Altered.{recordWith, Within, Alterable, Changeable, AtFront}
 use Rattle.alterations.specs.declared.Alteration.{Alteration}
 
 -- sound and equal copies hold one record
@@ -30,7 +30,7 @@ equal-same a e =
     same-true (recordOf (copy0 a)) (recordOf (copy1 a)) (both (soundCopy (copy0 a) && soundCopy (copy1 a)) (recordsEqual a) e .1)
 
 -- one list behind the other, from the front
-pub listed-then : (n m : ℕ) (one two : List Store) (d f g : List ℕ) → Added 0 n one d f → Added n m two f g → Listed m (one ++ two) d g
+pub listed-then : (n m : ℕ) (one two : List Store) (d f g : List ℕ) → Added 0 n one d f → Added n m two f g → AtFront m (one ++ two) d g
 listed-then n m one two d f g s t =
     let q = added-all m (one ++ two) d g (added-then 0 n m one two d f g s t) in
     record { count = q .0; lists = q .1 }
@@ -44,17 +44,17 @@ module _ (x : Alteration) (a d r : List ℕ) (e : r ≡ recordOf (copy0 a)) (p :
   second = sym (e ∙ equal-same a (p .equal))
 
   abbrev stores : List Store
-  stores = changeStores a (newRecord x (recordOf (copy0 a)))
+  stores = changeStores a (recordWith x (recordOf (copy0 a)))
 
-  stores-none : true ≡ same r (newRecord x r) → stores ≡ []
+  stores-none : true ≡ same r (recordWith x r) → stores ≡ []
   unfolding changeStores copyStores
   stores-none h = rw (← e, second, ← h)
 
   -- nothing to do
-  pub listed-none : true ≡ same r (newRecord x r) → Listed 0 stores d d
+  pub listed-none : true ≡ same r (recordWith x r) → AtFront 0 stores d d
   listed-none h = record { count = rw (stores-none h); lists = rw (stores-none h, withList-none) }
 
   -- both copies
-  pub stores-both : false ≡ same r (newRecord x r) → stores ≡ plan 0 (copy0 a) (newRecord x r) ++ plan copySize (copy1 a) (newRecord x r)
+  pub stores-both : false ≡ same r (recordWith x r) → stores ≡ plan 0 (copy0 a) (recordWith x r) ++ plan copySize (copy1 a) (recordWith x r)
   unfolding changeStores copyStores
   stores-both h = rw (← e, second, ← h)

@@ -13,13 +13,13 @@ use stores::put_pair;
 ghost use mathlib.Core.Path.{_≡_};
 ghost use mathlib.Core.List.{_++_};
 ghost use Prim.Native.Nat.{_+_, _-_, _/_, _≤_};
-ghost use lib.ListN.{length, drop};
-ghost use Rattle.crc.specs.Crc.{crc32Of};
-ghost use Rattle.record.specs.Layout.{areaSize, copySize, versionAt, recordOf, copy0, copy1};
+ghost use lib.ListN.{length};
+ghost use Rattle.record.specs.Layout.{areaSize, copySize, recordOf, copy0, copy1};
+ghost use Rattle.record.specs.Rules.{crcOf};
 ghost use Rattle.stores.specs.Stores.{offsets, plan, storeNumbers};
 ghost use Rattle.stores.specs.Added.{Added, stored, Listable};
 ghost use Rattle.alterations.specs.ChangeStores.{changeStores};
-ghost use Rattle.alterations.specs.Altered.{alteredBy, newRecord, Within, Alterable, Changeable, Listed};
+ghost use Rattle.alterations.specs.Altered.{alteredBy, recordWith, Within, Alterable, Changeable, AtFront};
 
 // The new record's words from 8 on where the copy c holds another.
 fn put_new_words(
@@ -32,7 +32,7 @@ fn put_new_words(
     k: usize,
 ) -> usize
     requires { ⌜ Alterable x (now r) banks × Listable (now c) (now r) base k (length (now out) + 4) ⌝ }
-    ensures { λ n. ⌜ Added k n (stored base (now (c .entry)) (newRecord x (now (r .entry))) (offsets 8 (length (now (r .entry)) / 4 - 2))) (now (out .entry)) (now (out .exit)) × (n ≤ k + (length (now (r .entry)) / 4 - 2)) ⌝ }
+    ensures { λ n. ⌜ Added k n (stored base (now (c .entry)) (recordWith x (now (r .entry))) (offsets 8 (length (now (r .entry)) / 4 - 2))) (now (out .entry)) (now (out .exit)) × (n ≤ k + (length (now (r .entry)) / 4 - 2)) ⌝ }
 {
     let mut j = k;
     let mut o = 8;
@@ -54,8 +54,8 @@ fn put_change(
     out: &mut [u32],
     k: usize,
 ) -> usize
-    requires { ⌜ Alterable x (now r) banks × (crc ≡ crc32Of (drop versionAt (alteredBy x (now r)))) × Listable (now c) (now r) base k (length (now out)) ⌝ }
-    ensures { λ n. ⌜ Added k n (plan base (now (c .entry)) (newRecord x (now (r .entry)))) (now (out .entry)) (now (out .exit)) × (n ≤ k + length (now (r .entry)) / 4 + 1) ⌝ }
+    requires { ⌜ Alterable x (now r) banks × (crc ≡ crcOf (alteredBy x (now r))) × Listable (now c) (now r) base k (length (now out)) ⌝ }
+    ensures { λ n. ⌜ Added k n (plan base (now (c .entry)) (recordWith x (now (r .entry)))) (now (out .entry)) (now (out .exit)) × (n ≤ k + length (now (r .entry)) / 4 + 1) ⌝ }
 {
     let first = put_pair(out, k, base + 4, 0);
     let second = put_differing(read32(c, 0), crc, base, out, first, 0);
@@ -65,8 +65,8 @@ fn put_change(
 
 // Into both copies, copy 0 whole before copy 1.
 fn put_both(area: &[u8], r: &[u8], banks: usize, x: Alteration, crc: u32, out: &mut [u32]) -> usize
-    requires { ⌜ Alterable x (now r) banks × (crc ≡ crc32Of (drop versionAt (alteredBy x (now r)))) × (length (now area) ≡ areaSize) × (storeNumbers ≤ length (now out)) ⌝ }
-    ensures { λ n. ⌜ Listed n (plan 0 (copy0 (now (area .entry))) (newRecord x (now (r .entry))) ++ plan copySize (copy1 (now (area .entry))) (newRecord x (now (r .entry)))) (now (out .entry)) (now (out .exit)) ⌝ }
+    requires { ⌜ Alterable x (now r) banks × (crc ≡ crcOf (alteredBy x (now r))) × (length (now area) ≡ areaSize) × (storeNumbers ≤ length (now out)) ⌝ }
+    ensures { λ n. ⌜ AtFront n (plan 0 (copy0 (now (area .entry))) (recordWith x (now (r .entry))) ++ plan copySize (copy1 (now (area .entry))) (recordWith x (now (r .entry)))) (now (out .entry)) (now (out .exit)) ⌝ }
 {
     let n = put_change(&area[0..COPY], r, banks, x, crc, 0, out, 0);
     put_change(&area[COPY..AREA], r, banks, x, crc, 8192, out, n)
@@ -75,7 +75,7 @@ fn put_both(area: &[u8], r: &[u8], banks: usize, x: Alteration, crc: u32, out: &
 // Lists the stores that make the alteration in both copies; none where it alters nothing.
 pub fn list_change(area: &[u8], x: Alteration, out: &mut [u32]) -> usize
     requires { ⌜ Changeable (now area) (now out) × Within x (recordOf (copy0 (now area))) ⌝ }
-    ensures { λ n. ⌜ Listed n (changeStores (now (area .entry)) (newRecord x (recordOf (copy0 (now (area .entry)))))) (now (out .entry)) (now (out .exit)) ⌝ }
+    ensures { λ n. ⌜ AtFront n (changeStores (now (area .entry)) (recordWith x (recordOf (copy0 (now (area .entry)))))) (now (out .entry)) (now (out .exit)) ⌝ }
 {
     let r = record_in_copy0(area);
     let banks = r[32] as usize;

@@ -18,14 +18,14 @@ updateBankOf r = updateBank (bankCount r) (active r)
 unfoldable pub imageWith : (g r : List ℕ) → ℕ
 imageWith g r = least (imageCount r) (λ i. same (typeGuid r i) g)
 
--- images 0 to n - 1 of bank b unaccepted
-unfoldable pub firstUnaccepted : (n b : ℕ) → List ℕ → List ℕ
-firstUnaccepted zero b r = r
-firstUnaccepted (suc n) b r = setAccepted n b 0 (firstUnaccepted n b r)
+-- the images below n unaccepted in bank b
+unfoldable pub unacceptedBelow : (n b : ℕ) → List ℕ → List ℕ
+unacceptedBelow zero b r = r
+unacceptedBelow (suc n) b r = setAccepted n b 0 (unacceptedBelow n b r)
 
 -- Begin: "It becomes 255 with all images unaccepted"
 unfoldable pub begunRecord : List ℕ → List ℕ
-begunRecord r = withCrc (firstUnaccepted (imageCount r) (updateBankOf r) (setState (updateBankOf r) invalid r))
+begunRecord r = withCrc (unacceptedBelow (imageCount r) (updateBankOf r) (setState (updateBankOf r) invalid r))
 
 -- Commit of image i: "0 marks it accepted, above 0 unaccepted", in the bank that is being staged, which is the update bank.
 -- "A repeat: the later stands."
@@ -40,7 +40,7 @@ endedRecord r =
     (setPrevious (active r) (setState (updateBankOf r) (cond (allAccepted r (updateBankOf r)) acceptedBank valid) r)))
 
 -- Accept of image i: "the image becomes accepted in the active bank". "Accepting an accepted image changes nothing in the record" is a
--- consequence for a sound record, by rules 13 and 14
+-- consequence for a sound record, by rules 9 and 12 to 14
 unfoldable pub marked : ℕ → List ℕ → List ℕ
 marked i r = setAccepted i (active r) 1 r
 

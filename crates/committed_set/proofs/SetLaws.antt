@@ -4,19 +4,19 @@ use mathlib.Core.Bool.{Bool, true, false, cond, _&&_, _||_}
 use mathlib.Core.Logic.{_⊎_, inl, inr, ⊎-elim}
 use mathlib.Core.List.{List}
 use Prim.Native.Nat.{ℕ, zero, suc, _+_, _-_, _/_, _%_, _^_, _≤_, _<_}
-use native.Mathlib.Nat.{add-assoc, add-zero, mod-lt, div-eq-of-lt, lt-of-lt-of-le, one-mul}
+use native.Mathlib.Nat.{add-assoc, add-zero, add-suc, mod-lt, div-eq-of-lt, div-lt-iff-lt-mul, lt-div-mul-add, lt-of-lt-of-le, one-mul, pow-suc, pow-succ'}
 use native.Mathlib.Numerals.{one-add}
 use native.Mathlib.Omega.{arith}
-use borrow.Author.Tests.{eq-eqb, ne-eqb}
+use borrow.Author.Tests.{eqb-false, eq-eqb, ne-eqb}
 use lib.Dec.{eqb}
 use lib.Bits.{bitOr, or-shr, or-mod, or-lt, shifted-even}
 use lib.Count.{onesIn}
-use lib.Pow.{pow-lt, pow-mono, pow-add, shl-shr, shr-shr}
+use lib.Pow.{pow-lt, pow-mono, pow-pos, pow-add, shl-shr, shr-shr}
 use Rattle.fields.proofs.Tests.{le-or-lt}
 use Rattle.record.specs.Layout.{imageCount}
 use Rattle.record.specs.Every.{below}
 use Rattle.committed_set.specs.Set.{setBits, joined, missing}
-use Rattle.committed_set.specs.SetLaws.{inSet, everyIn, absent}
+use Rattle.committed_set.specs.SetLaws.{inSet, everyIn, absent, NoneFrom, SetLaws}
 use Rattle.committed_set.proofs.Bits.{ones-in}
 
 -- a bit is 0 or 1
@@ -127,3 +127,38 @@ joined-law i j set =
 pub joined-below : (i n set : ℕ) → i < n → set < 2 ^ n → joined i set < 2 ^ n
 unfolding joined
 joined-below i n set h l = or-lt n set (2 ^ i) l (pow-lt h)
+
+-- a number below a power of 2 has no bit from there on
+none-from : (n set : ℕ) → set < 2 ^ n → NoneFrom n set
+unfolding inSet
+none-from n set h j l = rw (div-eq-of-lt (lt-of-lt-of-le h (pow-mono l)))
+
+-- a number is below some power of 2, and without the bits from n on below that of n
+grows : (n : ℕ) → n < 2 ^ n
+grows zero = omega arith
+grows (suc n) = omega (arith, grows n, pow-suc 2 n)
+
+no-top : (m set : ℕ) → set < 2 ^ suc m → inSet set m ≡ false → set < 2 ^ m
+unfolding inSet
+no-top m set h e =
+    let q : set / 2 ^ m < 2 = div-lt-iff-lt-mul (pow-pos m) .1 (rw (← pow-succ' 2 m) h) in
+    ⊎-elim
+    (λ (z : set / 2 ^ m % 2 ≡ 0).
+    let none : set / 2 ^ m ≡ 0 = omega (arith, q, z) in
+    omega (arith, rw none at (lt-div-mul-add {a = set} (pow-pos m))))
+    (λ (o : set / 2 ^ m % 2 ≡ 1). absurd (eqb-false (set / 2 ^ m % 2) 1 e o))
+    (bit (set / 2 ^ m))
+
+below-power : (k n set : ℕ) → NoneFrom n set → set < 2 ^ (n + k) → set < 2 ^ n
+below-power zero n set p h = rw (← add-zero n) h
+below-power (suc k) n set p h = below-power k n set p (no-top (n + k) set (rw (← add-suc n k) h) (p (n + k) (omega arith)))
+
+pub set-laws : SetLaws
+set-laws =
+    record {
+      joins = joined-law;
+      lacks = missing-law;
+      whole = none-absent;
+      low = none-from;
+      high = λ n set p. below-power set n set p (lt-of-lt-of-le (grows set) (pow-mono (omega arith)));
+    }

@@ -22,6 +22,7 @@ setBits = 32
 unfoldable pub missing : (set : ℕ) (r : List ℕ) → ℕ
 missing set r = imageCount r - onesIn setBits set
 
--- not 24, of a Staging session with that bank and set. Crate session states 24 by itself (crates/session/specs/Calls.antt) and is proved to agree
-unfoldable pub setFits : (bank set : ℕ) (r : List ℕ) → Bool
-setFits bank set r = eqb bank (updateBankOf r) && (eqb (state r bank) invalid && ltb set (2 ^ imageCount r))
+-- not 24, "Staging whose bank isn't the update bank or isn't 255, or a set bit at or past the image count": of a Staging session with that bank and
+-- set. That a number below 2 to the power of the count has no such bit, and no other number, is a law (specs/SetLaws.antt)
+unfoldable pub stagedFits : (bank set : ℕ) (r : List ℕ) → Bool
+stagedFits bank set r = eqb bank (updateBankOf r) && (eqb (state r bank) invalid && ltb set (2 ^ imageCount r))

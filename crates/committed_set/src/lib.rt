@@ -7,12 +7,12 @@ ghost use mathlib.Core.Bool.{true};
 ghost use Prim.Native.Nat.{_<_, _^_};
 ghost use Rattle.record.specs.Layout.{imageCount};
 ghost use Rattle.record.specs.Rules.{sound};
-ghost use Rattle.committed_set.specs.Set.{missing, setFits};
+ghost use Rattle.committed_set.specs.Set.{missing, stagedFits};
 
-// 24, of a Staging session. The bank is looked up only where it is the update bank: a session may name any number.
+// Whether a Staging session is free of 24. The bank is looked up only where it is the update bank: a session may name any number.
 pub fn staged(r: &[u8], bank: u32, set: u32) -> bool
     requires { ⌜ sound (now r) ≡ true ⌝ }
-    ensures { λ b. ⌜ b ≡ setFits bank set (now (r .entry)) ⌝ }
+    ensures { λ b. ⌜ b ≡ stagedFits bank set (now (r .entry)) ⌝ }
 {
     if bank as usize != update_bank(r) {
         return false;

@@ -107,7 +107,7 @@ module _ (a s : List ℕ) where
 
     -- the bank being staged is 255
     staged : (bank set : ℕ) → stagingFits (Staging bank set) (held a) ≡ true → state (held a) (updateBankOf (held a)) ≡ invalid
-    unfolding stagingFits
+    unfolding stagingFits calls.stagedFits
     staged bank set e =
         let p = both (eqb bank (updateBankOf (held a))) (eqb (state (held a) bank) invalid && ltb set (2 ^ imageCount (held a))) e in
         let u = both (eqb (state (held a) bank) invalid) (ltb set (2 ^ imageCount (held a))) (p .1) in

@@ -18,7 +18,7 @@ use Rattle.record.specs.Rules.{acceptedBank, soundCopy}
 use Rattle.copies.specs.Copies.{recordsEqual, soundAndEqual}
 use Rattle.stores.specs.Stores.{storeNumbers}
 use Rattle.alterations.specs.Fields.{setState, setAccepted, withCrc}
-use Rattle.changes.specs.NewRecord.{imageWith, firstUnaccepted, begunRecord}
+use Rattle.changes.specs.NewRecord.{imageWith, unacceptedBelow, begunRecord}
 use Rattle.session.specs.declared.Session.{Session}
 use Rattle.session.specs.declared.Session.the-variants.{Regular, Staging, Trial, Fallback}
 use Rattle.session.specs.Outcome.{Decision, accepted}
@@ -86,15 +86,15 @@ unfolding sampleRecord le
 previous-sample = refl
 
 image-staged : ltb (imageWith zeroGuid stagedRecord) (imageCount stagedRecord) ≡ true
-unfolding stagedRecord begunRecord firstUnaccepted setState setAccepted withCrc put bytes sampleRecord imageWith least guid same le
+unfolding stagedRecord begunRecord unacceptedBelow setState setAccepted withCrc put bytes sampleRecord imageWith least guid same le
 image-staged = refl
 
 fits-staged : (set : ℕ) → ltb set 2 ≡ true → stagingFits (Staging 1 set) stagedRecord ≡ true
-unfolding stagingFits stagedRecord begunRecord firstUnaccepted setState setAccepted withCrc put bytes sampleRecord le
+unfolding stagingFits calls.stagedFits stagedRecord begunRecord unacceptedBelow setState setAccepted withCrc put bytes sampleRecord le
 fits-staged set h = h
 
 missing-staged : eqb (missing 1 stagedRecord) 0 ≡ true
-unfolding missing onesIn stagedRecord begunRecord firstUnaccepted setState setAccepted withCrc put bytes sampleRecord le
+unfolding missing onesIn stagedRecord begunRecord unacceptedBelow setState setAccepted withCrc put bytes sampleRecord le
 missing-staged = refl
 
 -- ---- the calls on an area that holds the first record, and on one that holds the second

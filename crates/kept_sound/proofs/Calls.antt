@@ -11,7 +11,7 @@ use Rattle.record.specs.Layout.{active, previous, bankCount, imageCount}
 use Rattle.record.specs.Rules.{invalid, valid, acceptedBank, allAccepted}
 use Rattle.record.specs.Sized.{Sized}
 use Rattle.alterations.specs.Fields.{setActive, setPrevious, setState, setAccepted}
-use Rattle.changes.specs.NewRecord.{firstUnaccepted, marked}
+use Rattle.changes.specs.NewRecord.{unacceptedBelow, marked}
 use Rattle.kept_sound.specs.Fields.{Fields, fieldsOf, withState, allIn, begun, committed, ended, markedIn, acceptedOf, exchanged}
 use Rattle.kept_sound.proofs.Says.{Says, says-active, says-previous, says-state, says-flag}
 use Rattle.kept_sound.proofs.Carried.{all-in, all-reads}
@@ -64,14 +64,14 @@ one-more-cleared false false true v = refl
 one-more-cleared false false false v = refl
 
 says-cleared : (r : List ℕ) (banks images : ℕ) → Sized r banks images → (x : List ℕ) (f : Fields) → Says r banks images x f
-    → (b : ℕ) → b < banks → (n : ℕ) → n ≤ images → Says r banks images (firstUnaccepted n b x) (cleared n b f)
-unfolding firstUnaccepted
+    → (b : ℕ) → b < banks → (n : ℕ) → n ≤ images → Says r banks images (unacceptedBelow n b x) (cleared n b f)
+unfolding unacceptedBelow
 says-cleared r banks images s x f w b hb zero h =
     says-flags r banks images x f (cleared zero b f) w refl refl (λ c. refl) (λ i c hi hc. rw (le-ltb i 0 (omega arith)))
 says-cleared r banks images s x f w b hb (suc n) h =
     let before = says-cleared r banks images s x f w b hb n (omega arith) in
-    let one = says-flag r banks images s (firstUnaccepted n b x) (cleared n b f) before n b 0 (omega arith) hb (omega arith) in
-    says-flags r banks images (setAccepted n b 0 (firstUnaccepted n b x)) _ (cleared (suc n) b f) one refl refl (λ c. refl) (λ i c hi hc.
+    let one = says-flag r banks images s (unacceptedBelow n b x) (cleared n b f) before n b 0 (omega arith) hb (omega arith) in
+    says-flags r banks images (setAccepted n b 0 (unacceptedBelow n b x)) _ (cleared (suc n) b f) one refl refl (λ c. refl) (λ i c hi hc.
     rw (one-more i n) (one-more-cleared (eqb c b) (eqb i n) (ltb i n) (f .flags i c)))
 
 module _ (r : List ℕ) (small : Bytes r) (s : Sized r (bankCount r) (imageCount r)) where
@@ -98,12 +98,12 @@ module _ (r : List ℕ) (small : Bytes r) (s : Sized r (bankCount r) (imageCount
     u4 : u < 4
     u4 = omega (arith, s .banks-high)
 
-    pub begin-says : Told (firstUnaccepted (imageCount r) u (setState u invalid r)) (begun u f)
+    pub begin-says : Told (unacceptedBelow (imageCount r) u (setState u invalid r)) (begun u f)
     begin-says =
         let state = says-state r (bankCount r) (imageCount r) s r f told u invalid u4 (omega arith) in
         let x = setState u invalid r in
         let all = says-cleared r (bankCount r) (imageCount r) s x (withState u invalid f) state u hu (imageCount r) (omega arith) in
-        says-flags r (bankCount r) (imageCount r) (firstUnaccepted (imageCount r) u x) _ (begun u f) all refl refl (λ b. refl) (λ i b hi hb.
+        says-flags r (bankCount r) (imageCount r) (unacceptedBelow (imageCount r) u x) _ (begun u f) all refl refl (λ b. refl) (λ i b hi hb.
         rw (lt-ltb i (imageCount r) hi))
 
     pub commit-says : (i request : ℕ) → i < imageCount r → Told (setAccepted i u (cond (eqb request 0) 1 0) r) (committed i request u f)

@@ -1,14 +1,14 @@
 -- When a copy is sound (document 01, "The record": "A copy is sound exactly if: .."): fourteen rules, in the order in which semicolons part
 -- them, each over the bytes r of a record alone. Assumes nothing.
-use Prim.Native.Nat.{ℕ, _+_, _*_}
-use mathlib.Core.Bool.{Bool, true, false, cond, not, _&&_, _||_}
+use Prim.Native.Nat.{ℕ}
+use mathlib.Core.Bool.{Bool, true, cond, not, _&&_, _||_}
 use mathlib.Core.List.{List, [], _∷_}
 use lib.Dec.{eqb, leb, ltb}
 use lib.ListN.{length, drop}
 use Rattle.fields.specs.Guid.{same}
 use Rattle.crc.specs.Crc.{crc32Of}
 use Rattle.record.specs.Every.{below}
-use Rattle.record.specs.Layout.{imageLimit, bankLimit, crc, version, active, previous, size, descriptorOffset, reserved22, state, reserved28, bankCount, reserved33, imageCount, imageEntrySize, bankEntrySize, entrySize, recordSize, typeGuid, accepted, reserved, recordOf}
+use Rattle.record.specs.Layout.{imageLimit, bankLimit, versionAt, crc, version, active, previous, size, descriptorOffset, reserved22, state, reserved28, bankCount, reserved33, imageCount, imageEntrySize, bankEntrySize, entrySize, recordSize, typeGuid, accepted, reserved, recordOf}
 
 -- 1: "version is 2"
 unfoldable pub versionRule : List ℕ → Bool
@@ -92,9 +92,13 @@ bankConsistent r b =
 unfoldable pub banksRule : List ℕ → Bool
 banksRule r = below (bankCount r) (bankConsistent r) && not (eqb (state r (active r)) invalid)
 
--- 14: "the CRC agrees"; "over bytes 4 to size", where r ends by rule 6
+-- "CRC-32 is the GPT's (..), over bytes 4 to size", where r ends by rule 6
+abbrev pub crcOf : List ℕ → ℕ
+crcOf r = crc32Of (drop versionAt r)
+
+-- 14: "the CRC agrees"
 unfoldable pub crcRule : List ℕ → Bool
-crcRule r = eqb (crc r) (crc32Of (drop 4 r))
+crcRule r = eqb (crc r) (crcOf r)
 
 -- the fourteen
 abbrev pub rules : List (List ℕ → Bool)

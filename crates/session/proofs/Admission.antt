@@ -16,7 +16,7 @@ use Rattle.gates.specs.declared.Gate.{Gate}
 use Rattle.gates.specs.declared.Gate.the-variants.{Open, Shut}
 use Rattle.gates.specs.Gates.{areaGate, equalGate}
 use Rattle.gates.proofs.Gates.{gate-open}
-use Rattle.committed_set.specs.Set.{setFits}
+use Rattle.committed_set.specs.Set.{stagedFits}
 use Rattle.committed_set.proofs.Fits.{set-below}
 use Rattle.admission.specs.Lines.{andThen, stagedGate}
 use Rattle.session.specs.declared.Session.{Session}
@@ -51,8 +51,8 @@ admission-by-gate q a n =
     (cond (not (stagingFits q (held a))) (refused StagingFault) accepted)
 
 -- 24 of a Staging session, by its bank and set
-staged-fits : (bank set : ℕ) (r : List ℕ) → setFits bank set r ≡ stagingFits (Staging bank set) r
-unfolding setFits stagingFits
+staged-fits : (bank set : ℕ) (r : List ℕ) → stagedFits bank set r ≡ stagingFits (Staging bank set) r
+unfolding stagingFits
 staged-fits bank set r = refl
 
 pub staged-below : (bank set : ℕ) (r : List ℕ) → stagingFits (Staging bank set) r ≡ true → set < 2 ^ imageCount r
@@ -68,7 +68,7 @@ then-decided (Shut why) b = refl
 pub staged-admission : (bank set : ℕ) (a : List ℕ) (n : ℕ) → gateDecision (stagedGate bank set a n) ≡ admission (Staging bank set) a n
 unfolding stagedGate stagingDecision
 staged-admission bank set a n =
-    then-decided (areaGate a n) (setFits bank set (held a))
+    then-decided (areaGate a n) (stagedFits bank set (held a))
     ∙ ap (λ (b : Bool). decided (areaGate a n) (cond (not b) (refused StagingFault) accepted)) (staged-fits bank set (held a))
     ∙ admission-by-gate (Staging bank set) a n
 

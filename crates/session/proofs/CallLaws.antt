@@ -9,13 +9,15 @@ use Rattle.committed_set.proofs.SetLaws.{missing-law, none-absent}
 use Rattle.session.specs.declared.Session.the-variants.{Staging}
 use Rattle.session.specs.Calls.{held, endLine}
 use Rattle.session.specs.Admitted.{Admitted}
-use Rattle.session.specs.CallLaws.{endLineByImages}
+use Rattle.session.specs.CallLaws.{endLineByImages, CallLaws}
 use Rattle.session.proofs.Admission.{staged-below}
 
--- End is refused with 27 exactly if an image is not in the set, and tells how many are not
-pub end-law : (bank set : ℕ) (a s : List ℕ) → Admitted (Staging bank set) a s → endLine (Staging bank set) a s ≡ endLineByImages bank set a s
+end-law : (bank set : ℕ) (a s : List ℕ) → Admitted (Staging bank set) a s → endLine (Staging bank set) a s ≡ endLineByImages bank set a s
 unfolding endLine endLineByImages
 end-law bank set a s p =
     let r = held a in
     let k = known r (held-sound a (changeable-held a s (p .change))) in
     rw (missing-law set r (k .images-high) (staged-below bank set r (p .staging)), none-absent (imageCount r) set)
+
+pub call-laws : CallLaws
+call-laws = record { end = end-law }

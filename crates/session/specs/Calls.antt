@@ -1,29 +1,28 @@
 -- What each of the six calls answers and lists (document 01, "Session and calls" and "When the bench says no"). q is the session given, a the
 -- bytes of the area, s the numbers of the store slice, g the bytes of a type GUID. A call's result is its answer and the store slice at exit.
--- The set of committed images, `joined` and `missing`, is in crates/committed_set/specs/Set.antt. Assumes nothing.
-use Prim.Native.Nat.{ℕ, _^_}
-use mathlib.Core.Bool.{Bool, true, cond, not, _&&_, _||_}
+-- The set of committed images, `joined`, `missing` and `stagedFits`, is in crates/committed_set/specs/Set.antt. Assumes nothing.
+use Prim.Native.Nat.{ℕ}
+use mathlib.Core.Bool.{Bool, true, cond, not, _||_}
 use mathlib.Core.List.{List}
-use lib.Dec.{eqb, leb, ltb}
+use lib.Dec.{eqb, ltb}
 use lib.ListN.{length}
 use Rattle.refusals.specs.declared.Refusal.{Refusal}
 use Rattle.refusals.specs.declared.Refusal.the-variants.{AreaLength, NoSoundCopy, CopiesDiffer, StoreSlice, StagingFault, SessionState, NoImage, ImagesMissing}
-use Rattle.record.specs.Layout.{areaSize, recordOf, copy0, copy1, active, previous, state, bankCount, imageCount}
-use Rattle.record.specs.Rules.{invalid, acceptedBank, allAccepted, soundCopy}
+use Rattle.record.specs.Layout.{areaSize, recordOf, copy0, copy1, active, previous, state, imageCount}
+use Rattle.record.specs.Rules.{acceptedBank, allAccepted, soundCopy}
 use Rattle.copies.specs.Copies.{soundAndEqual}
 use Rattle.stores.specs.Stores.{storeNumbers, withList}
 use Rattle.changes.specs.NewRecord.{updateBankOf, imageWith, marked, begunRecord, committedRecord, endedRecord, acceptedRecord, exchangedRecord}
 use Rattle.alterations.specs.ChangeStores.{changeStores}
-unfoldable pub use Rattle.committed_set.specs.Set.{joined, missing}
+unfoldable pub use Rattle.committed_set.specs.Set.{joined, missing, stagedFits}
 use Rattle.session.specs.declared.Session.{Session}
 use Rattle.session.specs.declared.Session.the-variants.{Regular, Staging, Trial, Fallback, Restart}
-use Rattle.session.specs.Outcome.{Decision, accepted, refusal, refused, Outcome, refusedWith, acceptedWith}
+use Rattle.session.specs.Outcome.{Decision, accepted, refusal, refused, Outcome, acceptedWith}
 
 abbrev pub Result : Type 0
 Result = Outcome × List ℕ
 
--- "all other calls need two equal ones": the record that both copies hold. Read once a call is admitted, so that it is that of copy 0 and of
--- copy 1
+-- "all other calls need two equal ones": the record that both copies hold. Looked at once 22 is past, so that it is that of copy 0 and of copy 1
 abbrev pub held : List ℕ → List ℕ
 held a = recordOf (copy0 a)
 
@@ -39,9 +38,9 @@ refusedCall q why s = refusedBy q (refused why) s
 unfoldable pub changedTo : (next : Session) (a new s : List ℕ) → Result
 changedTo next a new s = (acceptedWith next (length (changeStores a new)), withList s (changeStores a new))
 
--- not 24, "Staging whose bank isn't the update bank or isn't 255, or a set bit at or past the image count": of any session, given to any call
+-- not 24: of any session, given to any call. `stagedFits` is in crates/committed_set/specs/Set.antt; a session that is not Staging has no fault
 unfoldable pub stagingFits : Session → (r : List ℕ) → Bool
-stagingFits (Staging bank set) r = eqb bank (updateBankOf r) && (eqb (state r bank) invalid && ltb set (2 ^ imageCount r))
+stagingFits (Staging bank set) r = stagedFits bank set r
 stagingFits Regular r = true
 stagingFits Trial r = true
 stagingFits Fallback r = true

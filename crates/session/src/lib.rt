@@ -35,7 +35,9 @@ pub enum Verdict {
     Refused(Refusal),
 }
 
-// The next session, or on a refusal the session as it was; the verdict; and how many pairs stand in the store list.
+// The next session, or on a refusal the session as it was; the verdict; and how many pairs stand in the store list. Start-up and repair are given
+// no session: where they have none to answer, which is in start-up's refusals and in every answer of repair, they show Restart, and a caller must
+// not take it for the next session.
 pub struct Answer {
     pub session: Session,
     pub verdict: Verdict,

@@ -6,7 +6,7 @@ use borrow.Author.Tests.{eq-eqb, ne-eqb}
 use lib.Bits.{bitOr}
 use Rattle.refusals.specs.declared.Refusal.the-variants.{NoImage, ImagesMissing}
 use Rattle.record.specs.Layout.{recordOf, copy0, imageCount}
-use Rattle.alterations.specs.Altered.{Listed}
+use Rattle.alterations.specs.Altered.{AtFront}
 use Rattle.alterations.specs.ChangeStores.{changeStores}
 use Rattle.changes.specs.NewRecord.{imageWith, committedRecord, endedRecord}
 use Rattle.committed_set.specs.Set.{joined, missing}
@@ -23,7 +23,7 @@ unfolding committed
 not-committed bank set request g a s h = no-image g a s _ h
 
 pub was-committed : (bank set request i n : ℕ) (g a s e : List ℕ) → i ≡ imageWith g (recordOf (copy0 a)) → i < imageCount (recordOf (copy0 a)) → i < 32
-    → Listed n (changeStores a (committedRecord i request (recordOf (copy0 a)))) s e
+    → AtFront n (changeStores a (committedRecord i request (recordOf (copy0 a)))) s e
     → (Staging bank (bitOr set ((1 * 2 ^ i) % 2 ^ 32)) n, e) ≡ committed bank set g request a s
 unfolding committed joined
 was-committed bank set request i n g a s e x h l p =
@@ -39,6 +39,6 @@ unfolding ended
 not-ended set count a s e h = rw (← e, ne-eqb count 0 h)
 
 pub was-ended : (set count n : ℕ) (a s e : List ℕ) → count ≡ missing set (recordOf (copy0 a)) → count ≡ 0
-    → Listed n (changeStores a (endedRecord (recordOf (copy0 a)))) s e → (Restart n, e) ≡ ended set a s
+    → AtFront n (changeStores a (endedRecord (recordOf (copy0 a)))) s e → (Restart n, e) ≡ ended set a s
 unfolding ended
 was-ended set count n a s e m z p = rw (← m, eq-eqb count 0 z) (was-listed Restart a (endedRecord (recordOf (copy0 a))) s e n p)

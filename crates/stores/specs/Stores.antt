@@ -1,7 +1,7 @@
 -- The stores that put a record into a copy, and a list of stores in a slice of numbers (document 01, "Session and calls"). c is the bytes of
 -- the copy, r those of the record, base the copy's offset in the area. Assumes nothing.
 use Prim.Native.Nat.{ℕ, zero, suc, _+_, _*_, _-_, _/_}
-use mathlib.Core.Bool.{Bool, true, false, cond}
+use mathlib.Core.Bool.{cond}
 use mathlib.Core.List.{List, [], _∷_, _++_, map}
 use lib.Dec.{eqb}
 use lib.ListN.{length, drop}

@@ -7,14 +7,14 @@ use lib.ListN.{length}
 use Rattle.fields.specs.Number.{Bytes, le}
 use Rattle.record.specs.Layout.{imageCount}
 use Rattle.record.proofs.Sizes.{in-words, record-high}
-use Rattle.alterations.specs.Altered.{newRecord}
+use Rattle.alterations.specs.Altered.{recordWith}
 use Rattle.alterations.proofs.Same.{Agree, agree-first, agree-more, agree-all, word-other}
 use Rattle.alterations.proofs.Words.{new-length, new-bytes, new-apart, new-crc}
 use Rattle.alterations.proofs.unchanged.Statement.{statement}
 use Rattle.alterations.proofs.unchanged.Tie as tie
 
 abbrev Inv-loop : tie.InvT-loop
-Inv-loop r banks x crc o₀ o = (4 ≤ o) × (4 * (o / 4) ≡ o) × (o ≤ length r) × Agree r (newRecord x r) o
+Inv-loop r banks x crc o₀ o = (4 ≤ o) × (4 * (o / 4) ≡ o) × (o ≤ length r) × Agree r (recordWith x r) o
 
 abbrev μ-loop : tie.MeasureT-loop
 μ-loop r banks x crc o₀ o = length r - o
@@ -31,7 +31,7 @@ returns c =
     let rd = c .before in
     let s = rd .before .before in
     let a = s .args in
-    word-other (a .r .now) (newRecord (a .x) (a .r .now)) 0 (λ e. c .if1 .taken (rd .read32 .ensures ∙ e ∙ new-crc (a .x) (a .r .now) (a .banks) (s .pre .0) (a .crc) (s .fits .crc .fits) (s .pre .1)))
+    word-other (a .r .now) (recordWith (a .x) (a .r .now)) 0 (λ e. c .if1 .taken (rd .read32 .ensures ∙ e ∙ new-crc (a .x) (a .r .now) (a .banks) (s .pre .0) (a .crc) (s .fits .crc .fits) (s .pre .1)))
 
 loop-holds : tie.Need-loop-holds Inv-loop μ-loop
 loop-holds c =
@@ -39,8 +39,8 @@ loop-holds c =
     let s = rd .before .before in
     let a = s .args in
     let w = in-words (a .r .now) (a .banks) (imageCount (a .r .now)) (s .pre .0 .sized) in
-    let e : le 4 (a .r .now) 0 ≡ le 4 (newRecord (a .x) (a .r .now)) 0 = sym (rd .read32 .ensures) ∙ c .if1 .left ∙ sym (new-crc (a .x) (a .r .now) (a .banks) (s .pre .0) (a .crc) (s .fits .crc .fits) (s .pre .1)) in
-    (omega arith, refl, omega (arith, w), agree-first (a .r .now) (newRecord (a .x) (a .r .now)) e)
+    let e : le 4 (a .r .now) 0 ≡ le 4 (recordWith (a .x) (a .r .now)) 0 = sym (rd .read32 .ensures) ∙ c .if1 .left ∙ sym (new-crc (a .x) (a .r .now) (a .banks) (s .pre .0) (a .crc) (s .fits .crc .fits) (s .pre .1)) in
+    (omega arith, refl, omega (arith, w), agree-first (a .r .now) (recordWith (a .x) (a .r .now)) e)
 
 read32-requires-2 : tie.Need-read32-requires-2 Inv-loop μ-loop
 read32-requires-2 c κs =
@@ -67,7 +67,7 @@ returns-2 c =
     let l = rd .before .before in
     let s = l .before .before .before .before in
     let a = s .args in
-    word-other (a .r .now) (newRecord (a .x) (a .r .now)) (l .loop .o) (λ e.
+    word-other (a .r .now) (recordWith (a .x) (a .r .now)) (l .loop .o) (λ e.
     c .if2 .taken
     (rd .read322 .ensures ∙ e ∙ new-apart (a .x) (a .r .now) (a .banks) (s .pre .0) 4 (l .loop .o) (l .loop .inv .0) ∙ sym (n .new-word .ensures)))
 
@@ -91,12 +91,12 @@ loop-again c =
     let i = l .loop .inv in
     let t = rd .before .loop-test .taken in
     let w = in-words (a .r .now) (a .banks) (imageCount (a .r .now)) (s .pre .0 .sized) in
-    let e : le 4 (a .r .now) (l .loop .o) ≡ le 4 (newRecord (a .x) (a .r .now)) (l .loop .o) =
+    let e : le 4 (a .r .now) (l .loop .o) ≡ le 4 (recordWith (a .x) (a .r .now)) (l .loop .o) =
     sym (rd .read322 .ensures) ∙ c .if2 .left ∙ n .new-word .ensures ∙ sym (new-apart (a .x) (a .r .now) (a .banks) (s .pre .0) 4 (l .loop .o) (i .0)) in (
       omega (arith, i .0),
       omega (arith, i .1),
       omega (arith, w, t, i .1),
-      agree-more (a .r .now) (newRecord (a .x) (a .r .now)) (l .loop .o) (i .1) (i .3) e,
+      agree-more (a .r .now) (recordWith (a .x) (a .r .now)) (l .loop .o) (i .1) (i .3) e,
     )
 
 returns-3 : tie.Need-returns-3 Inv-loop μ-loop
@@ -107,7 +107,7 @@ returns-3 c =
     let a = s .args in
     let small : Bytes (a .r .now) = λ j. k .shared-slice-known .given j .fits in
     let w = in-words (a .r .now) (a .banks) (imageCount (a .r .now)) (s .pre .0 .sized) in
-    agree-all (a .r .now) (newRecord (a .x) (a .r .now)) (l .loop .o) small (new-bytes (a .x) (a .r .now) (a .banks) (s .pre .0) small)
+    agree-all (a .r .now) (recordWith (a .x) (a .r .now)) (l .loop .o) small (new-bytes (a .x) (a .r .now) (a .banks) (s .pre .0) small)
     (sym (new-length (a .x) (a .r .now) (a .banks) (s .pre .0))) (omega (arith, w)) (c .loop-test .left) (l .loop .inv .3)
 
 pub unchanged-spec : {M : Type 1} → statement M

@@ -6,7 +6,7 @@ use lib.ListN.{length, drop, length-drop}
 use lib.Seq.{length-take-le}
 use Rattle.record.specs.Layout.{copySize, imageCount, copy0, copy1}
 use Rattle.stores.specs.Stores.{plan}
-use Rattle.alterations.specs.Altered.{newRecord}
+use Rattle.alterations.specs.Altered.{recordWith}
 use Rattle.stores.proofs.Listable.{listable, short}
 use Rattle.change_lists.proofs.Listing.{listed-then}
 use Rattle.change_lists.proofs.put_both.Statement.{statement}
@@ -67,7 +67,7 @@ returns c =
     let s = q .before .before .before .before .before .before in
     let a = s .args in
     let A = a .area .now in
-    let N = newRecord (a .x) (a .r .now) in
+    let N = recordWith (a .x) (a .r .now) in
     let f = q .put-change .last .1 .1 .1 .1 .1 .1 .0 in
     let g = q2 .put-change2 .last .1 .1 .1 .1 .1 .1 .0 in
     listed-then (q .put-change .result) (q2 .put-change2 .result) (plan 0 (copy0 A) N) (plan copySize (copy1 A) N) (a .out .now) f g

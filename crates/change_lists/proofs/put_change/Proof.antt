@@ -9,7 +9,7 @@ use Rattle.fields.specs.Number.{le}
 use Rattle.stores.specs.Added.{Added, stored}
 use Rattle.stores.specs.Stores.{Store, offsets}
 use Rattle.stores.proofs.Laid.{added-then, stored-one, plan-parts}
-use Rattle.alterations.specs.Altered.{newRecord}
+use Rattle.alterations.specs.Altered.{recordWith}
 use Rattle.alterations.proofs.Words.{new-length, new-crc, new-version}
 use Rattle.change_lists.proofs.put_change.Statement.{statement}
 use Rattle.change_lists.proofs.put_change.Tie as tie
@@ -52,7 +52,7 @@ returns c =
     let s = p1 .before .before .before .before .before in
     let a = s .args in
     let C = a .c .now in
-    let N = newRecord (a .x) (a .r .now) in
+    let N = recordWith (a .x) (a .r .now) in
     let b = a .base in
     let w0 = a .out .now in
     let w1 = p1 .put-pair .last .0 in

@@ -9,7 +9,7 @@ use Rattle.fields.specs.Number.{le}
 use Rattle.stores.proofs.Laid.{added-none, added-more, stored-one, offsets-none}
 use Rattle.stores.specs.Added.{Added, stored}
 use Rattle.stores.specs.Stores.{offsets}
-use Rattle.alterations.specs.Altered.{newRecord}
+use Rattle.alterations.specs.Altered.{recordWith}
 use Rattle.alterations.proofs.Words.{new-apart}
 use Rattle.change_lists.proofs.put_new_words.Statement.{statement}
 use Rattle.change_lists.proofs.put_new_words.Tie as tie
@@ -17,7 +17,7 @@ use Rattle.change_lists.proofs.put_new_words.Tie as tie
 abbrev Inv-loop : tie.InvT-loop
 Inv-loop c r banks x base out₀ k j₀ o₀ out j o =
     (8 ≤ o) × (o ≡ 8 + 4 * ((o - 8) / 4)) × (o ≤ length r) × (length out ≡ length out₀)
-    × Added k j (stored base c (newRecord x r) (offsets 8 ((o - 8) / 4))) out₀ out × (j ≤ k + (o - 8) / 4)
+    × Added k j (stored base c (recordWith x r) (offsets 8 ((o - 8) / 4))) out₀ out × (j ≤ k + (o - 8) / 4)
 
 abbrev μ-loop : tie.MeasureT-loop
 μ-loop c r banks x base out₀ k j₀ o₀ out j o = length r - o
@@ -30,7 +30,7 @@ loop-holds c =
       omega arith,
       s .pre .1 .low,
       refl,
-      rw (offsets-none (a .c .now) (newRecord (a .x) (a .r .now)) (a .base)) (added-none (a .k) (a .out .now)),
+      rw (offsets-none (a .c .now) (recordWith (a .x) (a .r .now)) (a .base)) (added-none (a .k) (a .out .now)),
       omega arith,
     )
 
@@ -71,7 +71,7 @@ loop-again c =
     let s = l .before .before .before .before in
     let a = s .args in
     let i = l .loop .inv in
-    let N = newRecord (a .x) (a .r .now) in
+    let N = recordWith (a .x) (a .r .now) in
     let new = q .put-differing .last .1 .1 .1 .0 in
     let e = q .put-differing .ensures in
     let t = y .before .before .loop-test .taken in

@@ -2,7 +2,7 @@
 use borrow.Author.Tests.{eq-eqb, ne-eqb}
 use mathlib.Core.Path.{_∙_}
 use native.Mathlib.Omega.{arith}
-use Rattle.committed_set.specs.Set.{setFits}
+use Rattle.committed_set.specs.Set.{stagedFits}
 use Rattle.committed_set.proofs.Known.{known}
 use Rattle.committed_set.proofs.Fits.{set-decides}
 use borrow.Author.Needs.{needs}
@@ -13,7 +13,7 @@ update-bank-requires : tie.Need-update-bank-requires
 update-bank-requires c κs = search needs
 
 returns : tie.Need-returns
-unfolding setFits
+unfolding stagedFits
 returns c = rw (← c .before .update-bank .ensures .0, ne-eqb _ _ (c .if1 .taken))
 
 add-at : tie.Need-add-at
@@ -27,7 +27,7 @@ shared-slice-read-if2 c =
     omega (arith, k .header, k .update-low, k .banks-high, e .before .update-bank .ensures .0, e .if1 .left)
 
 returns-2 : tie.Need-returns-2
-unfolding setFits
+unfolding stagedFits
 returns-2 c =
     let e = c .before .before in
     rw (← e .before .update-bank .ensures .0, eq-eqb _ _ (e .if1 .left), ne-eqb _ _ (c .if2 .taken))
