@@ -22,6 +22,7 @@ use Rattle.repair.specs.Repair as entry
 use Rattle.power_cuts.specs.Area.{afterStores, afterCut}
 use Rattle.power_cuts.specs.Version2.{version2, repairStores, cut, Survives2}
 use Rattle.power_cuts.specs.Offsets.{InEither}
+use Rattle.kept_sound.proofs.Kept.{fields-made}
 use Rattle.power_cuts.proofs.Runs.{stores-bytes}
 use Rattle.power_cuts.proofs.Version2.{area-of, both-of, cut-is, power-cuts-2, any-change}
 use Rattle.power_cuts.proofs.Offsets.{each-weaken, store-rules}
@@ -64,6 +65,7 @@ module _ (a new : List ℕ) (n : ℕ) (l : length a ≡ areaSize) (b : Bytes a) 
         later = h .later;
         lasts = lasts (cut a new n) es cut-good;
         placed = each-weaken (InEither (length new)) (InRange (held a) new) (changeStores a new) (λ s p. inr p) (store-rules .change-placed a new sn);
+        words = store-rules .change-words a new bn;
         few = omega (arith, store-rules .change-count a new sn);
       }
 
@@ -134,12 +136,14 @@ module _ (a s : List ℕ) (acc : Accepted (repaired a s)) where
           after-all = settled;
           area = ap (afterStores a) stores-are ∙ any-change .repair a (mended .long) b (mended .one-sound);
           placed = rw stores-are (store-rules .repair-placed a);
+          words = rw stores-are (store-rules .repair-words a b);
           few = omega (arith, ap length stores-are, store-rules .repair-count a);
         }
 
 pub demand3 : Demand3
 demand3 =
     record {
+      makes = fields-made;
       change = λ k q a s n es b acc. call-survives k q a s b acc n es;
       change-listed = λ k q a s b acc. call-listed k q a s b acc;
       anywhere = λ a es l b h. lasts a es (record { long = l; bytes = b; one-sound = h });

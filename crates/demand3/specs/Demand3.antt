@@ -2,7 +2,7 @@
 -- clauses of the six calls, of repair and of start-up say that these answer, and of the numbers that stand in the store slice at exit. a is the
 -- bytes of an area, s the numbers of a store slice, q a session, r the bytes of a record, ss a list of stores, n how many of them are done
 -- before the cut, es a list of start-ups and repairs. Assumes nothing.
-use Prim.Native.Nat.{ℕ, zero, suc, _*_, _≤_}
+use Prim.Native.Nat.{ℕ, zero, suc, _*_, _/_, _≤_}
 use mathlib.Core.Path.{_≡_}
 use mathlib.Core.Logic.{_≢_, _⊎_}
 use mathlib.Core.Bool.{true}
@@ -13,7 +13,7 @@ use Rattle.record.specs.Layout.{areaSize, recordOf, copy0, copy1}
 use Rattle.record.specs.Rules.{sound, soundCopy}
 use Rattle.copies.specs.Copies.{sourceOf, recordRead, soundAndEqual}
 use Rattle.copies.specs.declared.Source.the-variants.{Neither}
-use Rattle.stores.specs.Stores.{Store, withList}
+use Rattle.stores.specs.Stores.{Store, storeNumbers, withList}
 use Rattle.changes.specs.NewRecord.{imageWith, begunRecord, committedRecord, endedRecord, acceptedRecord, exchangedRecord}
 use Rattle.session.specs.declared.Session.{Session}
 use Rattle.session.specs.Outcome.{Decision, accepted, refusal}
@@ -23,7 +23,8 @@ use Rattle.repair.specs.Repair.{repaired}
 use Rattle.power_cuts.specs.Area.{afterStores, afterCut}
 use Rattle.power_cuts.specs.Format.{over}
 use Rattle.power_cuts.specs.Version2.{Reads}
-use Rattle.power_cuts.specs.Offsets.{Each, InEither}
+use Rattle.power_cuts.specs.Offsets.{Each, Placed, InEither, InWord, otherAt}
+use Rattle.kept_sound.specs.Fields.{CallsMake}
 
 -- ---- "A change is one accepted Begin, Commit, End, Cancel, Accept or Select previous."
 -- a call and what it is given beside the session, the area and the slice: g the bytes of a type GUID
@@ -57,7 +58,8 @@ pairs (suc n) s = (getD s 0 0, getD s 1 0) ∷ pairs n (drop 2 s)
 unfoldable pub listOf : Result → List Store
 listOf x = pairs (x .0 .2) (x .1)
 
--- the list is whole: the slice s that was lent holds all the pairs that the answer x counts, and "Numbers past the list stay."
+-- the list is whole: the slice s that was lent holds all the pairs that the answer x counts, and "Numbers past the list stay." (`counted` is so by
+-- `listOf` already; what shuts an invented count out is `inside`, `rest` and `area` of `Survives` below)
 pub record Listed (s : List ℕ) (x : Result) : Type 0 where
   pub counted : length (listOf x) ≡ x .0 .2
   pub inside : 2 * length (listOf x) ≤ length s
@@ -72,7 +74,7 @@ pub record BothHold (a r : List ℕ) : Type 0 where
   pub is1 : recordOf (copy1 a) ≡ r
 
 -- ---- "The new one is the old with what the call's line above alters, its CRC worked anew."
--- What each of these records says field by field is read off again in crates/kept_sound (`CallsMake`, specs/Fields.antt)
+-- What each of these records says field by field, and that every other byte but the CRC's stays, is `makes` of `Demand3` below (crates/kept_sound)
 -- "Cancel itself changes nothing in the record"
 unfoldable pub newRecord : Call → (r : List ℕ) → List ℕ
 newRecord begin r = begunRecord r
@@ -133,7 +135,7 @@ InRange old new store = InEither (length old) store ⊎ InEither (length new) st
 
 -- "That slice must hold 4,200 numbers (2,100 pairs).": read as a limit on the list too, however long the slice is
 abbrev pub pairLimit : ℕ
-pairLimit = 2100
+pairLimit = storeNumbers / 2
 
 -- ---- a change from old to new with the stores ss, cut after n of them, and any list from there on
 --     long, holds             it was given an area whose two copies are sound and hold the old record
@@ -144,7 +146,7 @@ pairLimit = 2100
 --     after-all, area         "After all stores both copies hold the new record and every other byte of the area is as before."
 --     later                   "once the new is read, every later cut of that change reads it too"
 --     lasts                   "Go on from what that cut left"
---     placed, few             the rules on the list
+--     placed, words, few      the rules on the list; each store is one word
 pub record Survives (a old new : List ℕ) (ss : List Store) (n : ℕ) (es : List Event) : Type 0 where
   pub long : length a ≡ areaSize
   pub holds : BothHold a old
@@ -158,6 +160,7 @@ pub record Survives (a old new : List ℕ) (ss : List Store) (n : ℕ) (es : Lis
   pub later : (m : ℕ) → n ≤ m → Reads (afterCut a ss n) new → Reads (afterCut a ss m) new
   pub lasts : Lasts (afterCut a ss n) es
   pub placed : Each (InRange old new) ss
+  pub words : Each InWord ss
   pub few : length ss ≤ pairLimit
 
 -- ---- a repair of a with the stores ss, all of them done: "none if the copies are sound and equal, else the record read goes into the other
@@ -168,19 +171,22 @@ pub record Repairs (a : List ℕ) (ss : List Store) : Type 0 where
   pub none : soundAndEqual a ≡ true → ss ≡ []
   pub after-all : BothHold (afterStores a ss) (recordRead a)
   pub area : afterStores a ss ≡ over (recordRead a) (copy0 a) ++ over (recordRead a) (copy1 a)
-  pub placed : Each (InEither (length (recordRead a))) ss
+  pub placed : Each (Placed (otherAt (sourceOf a)) (length (recordRead a))) ss
+  pub words : Each InWord ss
   pub few : length ss ≤ pairLimit
 
 -- ---- Demand 3: "Start from two sound, equal copies of the record, take any accepted change and cut it after any number of its stores"; "Go on
 -- from what that cut left, or from any other area with a sound copy." That a is bytes is all that a change asks of it: that
 -- it is an area with two sound and equal copies is what the calls are refused for otherwise. No clause has a premise about the checksum.
 -- That calls and repairs are accepted at all is for their own clauses to say; proofs/Sample.antt has one of each
+--     makes            the new record has the old one's fields but for what the call's line alters, and the old one's bytes elsewhere
 --     change           one change, its cut, and the whole list
 --     change-listed    the stores of a change are those that its answer counts, in the slice that was lent
 --     anywhere         any other area with a sound copy
 --     repair           an accepted repair with all its stores done
 --     repair-listed    its stores are those that its answer counts, in the slice that was lent
 pub record Demand3 : Type 0 where
+  pub makes : CallsMake
   pub change : (k : Call) (q : Session) (a s : List ℕ) (n : ℕ) (es : List Event) → Bytes a → Accepted (resultOf k q a s)
       → Survives a (held a) (newRecord k (held a)) (listOf (resultOf k q a s)) n es
   pub change-listed : (k : Call) (q : Session) (a s : List ℕ) → Bytes a → Accepted (resultOf k q a s) → Listed s (resultOf k q a s)

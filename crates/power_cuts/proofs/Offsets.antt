@@ -1,12 +1,14 @@
--- Where the stores lie and how many there are. Assumes nothing.
+-- Where the stores lie, that each is one word, and how many there are. Assumes nothing.
 use mathlib.Core.Path.{_≡_, refl, sym, ap, _∙_}
 use mathlib.Core.Logic.{inl, inr}
 use mathlib.Core.Bool.{Bool, true, false, cond}
 use mathlib.Core.List.{List, [], _∷_, _++_, map, List·Memᴰ, List·Memᴰ·head, List·Memᴰ·tail}
-use Prim.Native.Nat.{ℕ, _+_, _*_, _-_, _/_, _%_, _≤_}
+use Prim.Native.Nat.{ℕ, _+_, _*_, _-_, _/_, _%_, _^_, _≤_, _<_}
 use native.Mathlib.Omega.{arith}
-use lib.ListN.{length, length-map, length-append}
+use lib.ListN.{length, drop, length-map, length-append}
+use Rattle.fields.specs.Number.{Bytes, le}
 use Rattle.fields.specs.Guid.{same}
+use Rattle.fields.proofs.Bytes.{take-bytes, drop-bytes}
 use Rattle.record.specs.Layout.{copySize, versionAt, recordOf, copy0, copy1}
 use Rattle.record.specs.Rules.{sound}
 use Rattle.copies.specs.Copies.{sourceOf, readFrom, soundAndEqual}
@@ -15,9 +17,9 @@ use Rattle.copies.specs.declared.Source.the-variants.{Copy0, Copy1, Neither}
 use Rattle.copies.proofs.Reading.{from-copy0, from-copy1}
 use Rattle.stores.specs.Stores.{Store, store, shift, storeNumbers, otherWords, differing, writes, plan}
 use Rattle.stores.specs.Added.{copyPairs}
-use Rattle.power_cuts.specs.Version2.{otherStores, repairStores}
+use Rattle.power_cuts.specs.Version2.{recordLength, otherStores, repairStores}
 use Rattle.alterations.specs.ChangeStores.{copyStores, changeStores}
-use Rattle.power_cuts.specs.Offsets.{Placed, Each, InEither, StoreRules}
+use Rattle.power_cuts.specs.Offsets.{Placed, Each, InEither, InWord, otherAt, StoreRules}
 use Rattle.power_cuts.proofs.Plan.{offsets-high, offsets-aligned, length-offsets, differing-mem, length-differing}
 use Rattle.power_cuts.proofs.Version2.{in-words, record-high}
 
@@ -63,6 +65,23 @@ placed base c r even k w = (
       (one-placed base r even versionAt (store r versionAt .1) refl (omega arith), tt),
 )
 
+-- each store's word: 0, or four bytes of the record
+record-word : (r : List ℕ) (o : ℕ) → Bytes r → le 4 r o < 2 ^ 32
+unfolding le
+record-word r o b = omega (arith, b o, b (o + 1), b (o + 1 + 1), b (o + 1 + 1 + 1))
+
+words : (base : ℕ) (r os : List ℕ) → Bytes r → Each InWord (map (shift base) (map (store r) os))
+words base r [] b = tt
+words base r (o ∷ os) b = (record-word r o b, words base r os b)
+
+plan-words : (base : ℕ) (c r : List ℕ) → Bytes r → Each InWord (plan base c r)
+unfolding plan writes
+plan-words base c r b = (
+  omega arith,
+  each-shifted InWord base (map (store r) (differing c r (otherWords r))) (store r versionAt ∷ [])
+      (words base r (differing c r (otherWords r)) b) (record-word r versionAt b, tt),
+)
+
 count : (base : ℕ) (c r : List ℕ) → 8 ≤ length r → length (plan base c r) ≤ length r / 4 + 1
 unfolding plan writes otherWords
 count base c r k =
@@ -85,9 +104,9 @@ module _ (c r : List ℕ) (h : sound r ≡ true) where
   few base = omega (arith, count base c r (omega (arith, in-words r h)), record-high r h)
 
 -- ---- a change
-spared-placed : (P : Store → Type 0) (t : Bool) (ss : List Store) → Each P ss → Each P (cond t [] ss)
-spared-placed P true ss p = tt
-spared-placed P false ss p = p
+spared : (P : Store → Type 0) (t : Bool) (ss : List Store) → Each P ss → Each P (cond t [] ss)
+spared P true ss p = tt
+spared P false ss p = p
 
 spared-few : (t : Bool) (ss : List Store) → length ss ≤ copyPairs → length (cond t [] ss) ≤ copyPairs
 spared-few true ss h = omega arith
@@ -97,8 +116,15 @@ change-placed : (a new : List ℕ) → sound new ≡ true → Each (InEither (le
 unfolding changeStores copyStores
 change-placed a new h =
     each-append (InEither (length new)) (copyStores 0 (copy0 a) new) (copyStores copySize (copy1 a) new)
-    (spared-placed (InEither (length new)) (same (recordOf (copy0 a)) new) (plan 0 (copy0 a) new) (into0 (copy0 a) new h))
-    (spared-placed (InEither (length new)) (same (recordOf (copy1 a)) new) (plan copySize (copy1 a) new) (into1 (copy1 a) new h))
+    (spared (InEither (length new)) (same (recordOf (copy0 a)) new) (plan 0 (copy0 a) new) (into0 (copy0 a) new h))
+    (spared (InEither (length new)) (same (recordOf (copy1 a)) new) (plan copySize (copy1 a) new) (into1 (copy1 a) new h))
+
+change-words : (a new : List ℕ) → Bytes new → Each InWord (changeStores a new)
+unfolding changeStores copyStores
+change-words a new b =
+    each-append InWord (copyStores 0 (copy0 a) new) (copyStores copySize (copy1 a) new)
+    (spared InWord (same (recordOf (copy0 a)) new) (plan 0 (copy0 a) new) (plan-words 0 (copy0 a) new b))
+    (spared InWord (same (recordOf (copy1 a)) new) (plan copySize (copy1 a) new) (plan-words copySize (copy1 a) new b))
 
 change-count : (a new : List ℕ) → sound new ≡ true → 2 * length (changeStores a new) ≤ storeNumbers
 unfolding changeStores copyStores
@@ -111,10 +137,10 @@ change-count a new h =
     ))
 
 -- ---- a repair
-other-placed : (a : List ℕ) (s : Source) → sourceOf a ≡ s → Each (InEither (length (readFrom s a))) (otherStores s a)
+other-placed : (a : List ℕ) (s : Source) → sourceOf a ≡ s → Each (Placed (otherAt s) (length (readFrom s a))) (otherStores s a)
 unfolding otherStores readFrom
-other-placed a Copy0 e = into1 (copy1 a) (recordOf (copy0 a)) (from-copy0 a e)
-other-placed a Copy1 e = into0 (copy0 a) (recordOf (copy1 a)) (from-copy1 a e)
+other-placed a Copy0 e = into (copy1 a) (recordOf (copy0 a)) (from-copy0 a e) copySize refl
+other-placed a Copy1 e = into (copy0 a) (recordOf (copy1 a)) (from-copy1 a e) 0 refl
 other-placed a Neither e = tt
 
 other-few : (a : List ℕ) (s : Source) → sourceOf a ≡ s → length (otherStores s a) ≤ copyPairs
@@ -123,14 +149,29 @@ other-few a Copy0 e = few (copy1 a) (recordOf (copy0 a)) (from-copy0 a e) copySi
 other-few a Copy1 e = few (copy0 a) (recordOf (copy1 a)) (from-copy1 a e) 0
 other-few a Neither e = omega arith
 
-repair-placed : (a : List ℕ) → Each (InEither (length (readFrom (sourceOf a) a))) (repairStores a)
+repair-placed : (a : List ℕ) → Each (Placed (otherAt (sourceOf a)) (length (readFrom (sourceOf a) a))) (repairStores a)
 unfolding repairStores
 repair-placed a =
-    spared-placed (InEither (length (readFrom (sourceOf a) a))) (soundAndEqual a) (otherStores (sourceOf a) a) (other-placed a (sourceOf a) refl)
+    spared (Placed (otherAt (sourceOf a)) (length (readFrom (sourceOf a) a))) (soundAndEqual a) (otherStores (sourceOf a) a) (other-placed a (sourceOf a) refl)
 
 repair-count : (a : List ℕ) → 2 * length (repairStores a) ≤ storeNumbers
 unfolding repairStores
 repair-count a = omega (arith, spared-few (soundAndEqual a) (otherStores (sourceOf a) a) (other-few a (sourceOf a) refl))
+
+record-bytes : (c : List ℕ) → Bytes c → Bytes (recordOf c)
+unfolding recordOf
+record-bytes c b = take-bytes (recordLength c) c b
+
+other-in-words : (a : List ℕ) (s : Source) → Bytes a → Each InWord (otherStores s a)
+unfolding otherStores readFrom
+other-in-words a Copy0 b = plan-words copySize (copy1 a) (recordOf (copy0 a)) (record-bytes (copy0 a) (take-bytes copySize a b))
+other-in-words a Copy1 b =
+    plan-words 0 (copy0 a) (recordOf (copy1 a)) (record-bytes (copy1 a) (take-bytes copySize (drop copySize a) (drop-bytes copySize a b)))
+other-in-words a Neither b = tt
+
+repair-words : (a : List ℕ) → Bytes a → Each InWord (repairStores a)
+unfolding repairStores
+repair-words a b = spared InWord (soundAndEqual a) (otherStores (sourceOf a) a) (other-in-words a (sourceOf a) b)
 
 pub store-rules : StoreRules
 store-rules =
@@ -139,6 +180,8 @@ store-rules =
       plan-count = count;
       change-placed = change-placed;
       change-count = change-count;
+      change-words = change-words;
       repair-placed = repair-placed;
       repair-count = repair-count;
+      repair-words = repair-words;
     }

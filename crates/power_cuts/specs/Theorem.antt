@@ -106,8 +106,8 @@ pub record Survives (F : Format) (W : Writer) (a old new : List ℕ) (n : ℕ) (
 abbrev pub RepairEnds : Format → Writer → (a r : List ℕ) (n : ℕ) → Type 0
 RepairEnds F W a r n = length (repairStores F W a) ≤ n → afterCut a (repairStores F W a) n ≡ over r (copy0 F a) ++ over r (copy1 F a)
 
--- Demand 3: "Start from two sound, equal copies of the record, take any accepted change and cut it after any number of its stores"; and "Go on
--- from what that cut left, or from any other area with a sound copy."
+-- Of any format and writer what demand 3 says of record version 2: "Start from two sound, equal copies of the record, take any accepted change and
+-- cut it after any number of its stores"; and "Go on from what that cut left, or from any other area with a sound copy."
 pub record PowerCuts (F : Format) (W : Writer) : Type 0 where
   pub change : (a old new : List ℕ) (n : ℕ) (es : List Event) → Area F a → BothHold F old a → Bytes new → F .sound new ≡ true
       → Survives F W a old new n es
