@@ -1,21 +1,38 @@
 -- When a Staging session's bank and set fit a record. Assumes nothing.
-use mathlib.Core.Path.{_≡_}
+use mathlib.Core.Path.{_≡_, sym, _∙_}
 use mathlib.Core.Bool.{true, _&&_}
+use mathlib.Core.Logic.{⊎-elim}
 use mathlib.Core.List.{List}
-use Prim.Native.Nat.{ℕ, _*_, _%_, _^_, _<_}
-use borrow.Author.Tests.{ltb-true, eq-eqb}
-use lib.Dec.{eqb, ltb}
-use Rattle.fields.proofs.Tests.{both}
+use Prim.Native.Nat.{ℕ, _+_, _*_, _^_, _≤_, _<_}
+use native.Mathlib.Nat.{lt-of-lt-of-le, pow-succ'}
+use native.Mathlib.Omega.{arith}
+use borrow.Author.Tests.{ltb-true, eq-eqb, le-leb, lt-leb, lt-ltb, le-ltb}
+use lib.Count.{leadingZeros, leading-length}
+use lib.Dec.{eqb, leb, ltb}
+use lib.Pow.{pow-mono}
+use Rattle.fields.proofs.Tests.{both, le-or-lt}
 use Rattle.record.specs.Layout.{state, imageCount}
 use Rattle.changes.specs.NewRecord.{updateBankOf}
-use Rattle.committed_set.specs.Set.{stagedFits}
-use Rattle.committed_set.proofs.Bits.{one-shifted}
+use Rattle.committed_set.specs.Set.{setBits, stagedFits}
 
--- 24, where bank and state are right: the set is below 2 to the power of the images
-pub set-decides : (bank set k : ℕ) (r : List ℕ) → bank ≡ updateBankOf r → state r bank ≡ 255 → k ≡ imageCount r → k < 64
-    → ltb set ((1 * 2 ^ k) % 2 ^ 64) ≡ stagedFits bank set r
+-- a number of `width` bits is below 2 to the power of n exactly if enough of its bits stand above its highest one
+pub above-highest : (width n set : ℕ) → set < 2 ^ width → leb width (n + leadingZeros width set) ≡ ltb set (2 ^ n)
+above-highest width n set h =
+    let z = leading-length width set h in
+    let m = z .0 in
+    ⊎-elim
+    (λ (few : m ≤ n).
+    le-leb width (n + leadingZeros width set) (omega (arith, z .1, few)) ∙ sym (lt-ltb set (2 ^ n) (lt-of-lt-of-le (z .2) (pow-mono few))))
+    (λ (many : n < m).
+    let top : 2 * 2 ^ n ≤ 2 ^ m = rw (← pow-succ' 2 n) (pow-mono many) in
+    lt-leb width (n + leadingZeros width set) (omega (arith, z .1, many)) ∙ sym (le-ltb set (2 ^ n) (omega (arith, top, z .3))))
+    (le-or-lt m n)
+
+-- 24, where bank and state are right
+pub set-decides : (bank set k : ℕ) (r : List ℕ) → bank ≡ updateBankOf r → state r bank ≡ 255 → k ≡ imageCount r → set < 2 ^ setBits
+    → leb setBits (k + leadingZeros setBits set) ≡ stagedFits bank set r
 unfolding stagedFits
-set-decides bank set k r b s i h = rw (one-shifted k 64 h, eq-eqb bank (updateBankOf r) b, eq-eqb (state r bank) 255 s, i)
+set-decides bank set k r b s i h = rw (above-highest setBits k set h, eq-eqb bank (updateBankOf r) b, eq-eqb (state r bank) 255 s, i)
 
 pub set-below : (bank set : ℕ) (r : List ℕ) → stagedFits bank set r ≡ true → set < 2 ^ imageCount r
 unfolding stagedFits

@@ -2,7 +2,8 @@
 use borrow.Author.Tests.{eq-eqb, ne-eqb}
 use mathlib.Core.Path.{_∙_}
 use native.Mathlib.Omega.{arith}
-use Rattle.committed_set.specs.Set.{stagedFits}
+use lib.Count.{leading-le}
+use Rattle.committed_set.specs.Set.{setBits, stagedFits}
 use Rattle.committed_set.proofs.Known.{known}
 use Rattle.committed_set.proofs.Fits.{set-decides}
 use borrow.Author.Needs.{needs}
@@ -38,11 +39,10 @@ read16-requires c κs = let s = c .before .before .before .before .before in ome
 cast-images : tie.Need-cast-images
 cast-images c = search needs
 
-cast-result : tie.Need-cast-result
-cast-result c = search needs
-
-shl-result : tie.Need-shl-result
-shl-result c = let s = c .before .before .before .before .before .before in omega (arith, c .read16 .ensures, known (s .args .r .now) (s .pre) .images-high)
+add-result : tie.Need-add-result
+add-result c =
+    let s = c .before .before .before .before .before .before in
+    omega (arith, c .read16 .ensures, known (s .args .r .now) (s .pre) .images-high, leading-le setBits (s .args .set))
 
 returns-3 : tie.Need-returns-3
 returns-3 c =
@@ -51,7 +51,7 @@ returns-3 c =
     let s = c .before .before .before .before .before .before in
     let r = s .args .r .now in
     set-decides (s .args .bank) (s .args .set) (c .read16 .result) r (e .if1 .left ∙ e .before .update-bank .ensures .0) (f .if2 .left) (c .read16 .ensures)
-    (omega (arith, c .read16 .ensures, known r (s .pre) .images-high))
+    (s .fits .set .fits)
 
 pub staged-spec : {M : Type 1} → statement M
 staged-spec =
@@ -64,6 +64,5 @@ staged-spec =
     returns-2
     read16-requires
     cast-images
-    cast-result
-    shl-result
+    add-result
     returns-3)
