@@ -1,7 +1,6 @@
 // The rules on a record's bank states and on what is accepted in each bank (document 01, "The record": rules 12 and 13). The counts and
 // the length have been tested (`Sized`) before anything here reads an entry.
-use fields::read32;
-use record::entry_at;
+use record::accepted_word;
 ghost use mathlib.Core.Path.{_≡_};
 ghost use Prim.Native.Nat.{_<_};
 ghost use Rattle.fields.specs.Number.{le};
@@ -46,7 +45,7 @@ pub fn all_accepted(r: &[u8], banks: usize, images: usize, b: usize) -> bool
 {
     let mut i = 0;
     while i < images {
-        if read32(r, entry_at(banks, i) + 32 + 24 * b + 16) != 1 {
+        if accepted_word(r, banks, i, b) != 1 {
             return false;
         }
         i += 1;

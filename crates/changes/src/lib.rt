@@ -2,6 +2,7 @@
 // bank, and what the record says once one of its fields is anew. A record is a slice of the area's own bytes; nothing is copied.
 use fields::read32;
 use fields::same_guid;
+use record::accepted_word;
 use record::entry_at;
 ghost use mathlib.Core.Path.{_≡_};
 ghost use mathlib.Core.Bool.{true};
@@ -38,7 +39,7 @@ fn accepted_with(r: &[u8], banks: usize, images: usize, b: usize, i: usize, k: u
     if k == i {
         return true;
     }
-    read32(r, entry_at(banks, k) + 32 + 24 * b + 16) == 1
+    accepted_word(r, banks, k, b) == 1
 }
 
 // Whether every image of bank b is accepted once image i is.

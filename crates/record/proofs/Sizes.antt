@@ -5,8 +5,12 @@ use Prim.Native.Nat.{ℕ, suc, _+_, _*_, _≤_, _<_}
 use native.Mathlib.Nat.{mul-le-mul, suc-mul, mul-assoc, mul-comm}
 use native.Mathlib.Omega.{arith}
 use lib.ListN.{length}
-use Rattle.record.specs.Layout.{headerSize, bankLimit, imageLimit, recordLimit, entrySize, entryAt, recordSize}
+use Rattle.record.specs.Layout.{headerSize, bankLimit, imageLimit, recordLimit, imageCount, entrySize, entryAt, recordSize}
 use Rattle.record.specs.Sized.{Sized}
+
+-- the image count by its field
+pub by-field : (r : List ℕ) (banks images : ℕ) → Sized r banks images → Sized r banks (imageCount r)
+by-field r banks images s = rw (s .images-is) s
 
 -- a product of two numbers with limits
 pub at-most : (a b m n : ℕ) → a ≤ m → b ≤ n → a * b ≤ m * n

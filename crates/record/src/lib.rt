@@ -1,10 +1,11 @@
-// The record's layout (document 01, "The record"): the record in a copy and in each copy of an area, and where an image's entry stands in it. A
-// record is a slice of the area's own bytes; nothing is copied. The rules are defined here, and tested in the crates above.
+// The record's layout (document 01, "The record"): the record in a copy and in each copy of an area, where an image's entry stands in it, and its
+// accepted word in a bank. A record is a slice of the area's own bytes; nothing is copied. The rules are defined here, and tested in the crates above.
 use fields::read32;
 ghost use mathlib.Core.Path.{_≡_};
-ghost use Prim.Native.Nat.{_≤_};
+ghost use Prim.Native.Nat.{_≤_, _<_};
 ghost use lib.ListN.{length};
-ghost use Rattle.record.specs.Layout.{areaSize, copy0, copy1, headerSize, bankLimit, imageLimit, recordLimit, recordOf, entryAt};
+ghost use Rattle.record.specs.Layout.{areaSize, copy0, copy1, headerSize, bankLimit, imageLimit, recordLimit, imageCount, recordOf, entryAt, accepted};
+ghost use Rattle.record.specs.Sized.{Sized};
 
 // The lengths of an area, of a copy and of a record's header.
 pub const AREA: usize = 16384;
@@ -50,4 +51,12 @@ pub fn entry_at(banks: usize, i: usize) -> usize
     ensures { λ at. ⌜ (at ≡ entryAt banks i) × (at ≤ recordLimit) ⌝ }
 {
     HEADER + i * (32 + 24 * banks)
+}
+
+// The accepted word of image i in bank b.
+pub fn accepted_word(r: &[u8], banks: usize, i: usize, b: usize) -> u32
+    requires { ⌜ Sized (now r) banks (imageCount (now r)) × (i < imageCount (now r)) × (b < banks) ⌝ }
+    ensures { λ v. ⌜ v ≡ accepted (now (r .entry)) i b ⌝ }
+{
+    read32(r, entry_at(banks, i) + 32 + 24 * b + 16)
 }

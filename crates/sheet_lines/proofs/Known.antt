@@ -3,17 +3,17 @@ use mathlib.Core.Path.{_≡_}
 use mathlib.Core.Bool.{Bool, true, false, cond, _||_}
 use mathlib.Core.Logic.{⊎-elim}
 use mathlib.Core.List.{List}
-use Prim.Native.Nat.{ℕ, _+_, _≤_, _<_}
+use Prim.Native.Nat.{ℕ, _≤_, _<_}
 use native.Mathlib.Omega.{arith}
 use borrow.Author.Tests.{leb-true, eqb-true}
 use lib.Dec.{eqb, leb, ltb}
 use lib.ListN.{length}
 use Rattle.fields.proofs.Tests.{either}
 use Rattle.record.specs.Every.{below}
-use Rattle.record.specs.Layout.{headerSize, bankLimit, imageLimit, recordLimit, active, previous, size, state, bankCount, imageCount, acceptedAt, accepted}
+use Rattle.record.specs.Layout.{headerSize, bankLimit, imageLimit, recordLimit, active, previous, size, state, bankCount, imageCount, accepted}
 use Rattle.record.specs.Rules.{invalid, valid, acceptedBank, acceptedRule, stateKnown, stateAllowed, statesRule, rules, sound}
 use Rattle.record.proofs.Below.{below-each}
-use Rattle.record.proofs.Sizes.{header-in, bank-in, record-high}
+use Rattle.record.proofs.Sizes.{header-in, record-high}
 use Rattle.record.proofs.Sound.{all-of, sound-sized, sound-size, sound-named}
 
 -- a state that rule 12 allows is a byte
@@ -47,10 +47,7 @@ module _ (r : List ℕ) (e : sound r ≡ true) where
   pub small-previous : previous r < bankLimit
   small-previous = omega (arith, sound-named r e .1, few-banks)
 
-  -- the accepted field of an image in a bank lies in the record, and is 0 or 1
-  pub accepted-in : (i b : ℕ) → i < imageCount r → b < bankCount r → acceptedAt (bankCount r) i b + 8 ≤ length r
-  accepted-in i b p q = omega (arith, bank-in r (bankCount r) (imageCount r) i b (sound-sized r e) p q)
-
+  -- the accepted field of an image in a bank is 0 or 1
   pub accepted-bit : (i b : ℕ) → i < imageCount r → b < bankCount r → accepted r i b ≤ 1
   unfolding sound acceptedRule
   accepted-bit i b p q =

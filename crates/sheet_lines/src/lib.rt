@@ -1,7 +1,7 @@
 // The bench sheet's lines of a sound record (document 01, "The bench sheet"), in a lent slice.
 use fields::read16;
 use fields::read32;
-use record::entry_at;
+use record::accepted_word;
 use text::line_of_one;
 use text::line_of_three;
 use text::line_of_two;
@@ -53,8 +53,8 @@ fn image_line(out: &mut [u8], k: usize, r: &[u8], i: usize, b: usize) -> usize
     requires { ⌜ (sound (now r) ≡ true) × (i < imageCount (now r)) × (b < bankCount (now r)) × Room k (imageLine (now r) i b) (now out) ⌝ }
     ensures { λ n. ⌜ Wrote k n (imageLine (now (r .entry)) i b) (now (out .entry)) (now (out .exit)) ⌝ }
 {
-    let at = entry_at(r[32] as usize, i) + 32 + 24 * b + 16;
-    line_of_three(out, k, b"image", i as u32, b as u32, read32(r, at))
+    let flag = accepted_word(r, r[32] as usize, i, b);
+    line_of_three(out, k, b"image", i as u32, b as u32, flag)
 }
 
 // The lines of image i in all banks.
