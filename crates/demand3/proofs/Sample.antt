@@ -29,7 +29,7 @@ use Rattle.power_cuts.specs.Area.{afterCut}
 use Rattle.power_cuts.specs.Format as format
 use Rattle.power_cuts.specs.Version2.{version2}
 use Rattle.power_cuts.proofs.Sample.{sampleRecord, sampleArea, sample-long, sample-area-bytes, sample-both}
-use Rattle.demand3.specs.Demand3.{begin, commit, end, cancel, accept, selectPrevious, resultOf, Accepted, listOf, newRecord, BothHold, afterList, Survives}
+use Rattle.demand3.specs.Demand3.{begin, commit, end, cancel, accept, selectPrevious, resultOf, Accepted, listOf, newRecord, BothHold, afterList, pairLimit, Survives}
 use Rattle.demand3.proofs.Events.{accepted-is}
 use Rattle.demand3.proofs.Demand3.{demand3}
 
@@ -63,10 +63,10 @@ module _ (q : Session) (a s : List ℕ) (long : length a ≡ areaSize) (room : s
 
 -- ---- the two records
 abbrev pub slice : List ℕ
-slice = replicate 4200 0
+slice = replicate storeNumbers 0
 
 slice-long : storeNumbers ≤ length slice
-slice-long = omega (arith, length-replicate {A = ℕ} 4200 0)
+slice-long = omega (arith, length-replicate {A = ℕ} storeNumbers 0)
 
 -- the type GUID of the one image
 abbrev pub zeroGuid : List ℕ
@@ -152,11 +152,11 @@ cut-long n = begun n .lasts .long
 
 -- with all of them done
 abbrev pub stagedArea : List ℕ
-stagedArea = cutBegin 2100
+stagedArea = cutBegin pairLimit
 
 staged-holds : BothHold stagedArea stagedRecord
 unfolding cutBegin newRecord stagedRecord
-staged-holds = rw (sample-holds .is0) at (begun 2100 .after-all (begun 2100 .few))
+staged-holds = rw (sample-holds .is0) at (begun pairLimit .after-all (begun pairLimit .few))
 
 repairs : (n : ℕ) → Accepted (repaired (cutBegin n) slice)
 unfolding cutBegin afterList listed
@@ -176,9 +176,9 @@ pub each-accepted : EachAccepted
 each-accepted =
     record {
       begin-taken = begins sampleArea sample-long sample-holds;
-      commit-taken = commits stagedArea (cut-long 2100) staged-holds;
-      end-taken = ends stagedArea (cut-long 2100) staged-holds;
-      cancel-taken = cancels stagedArea (cut-long 2100) staged-holds;
+      commit-taken = commits stagedArea (cut-long pairLimit) staged-holds;
+      end-taken = ends stagedArea (cut-long pairLimit) staged-holds;
+      cancel-taken = cancels stagedArea (cut-long pairLimit) staged-holds;
       accept-taken = accepts sampleArea sample-long sample-holds;
       select-taken = selects sampleArea sample-long sample-holds;
       repair-taken = repairs;

@@ -2,6 +2,7 @@
 use mathlib.Core.Path.{_≡_}
 use mathlib.Core.List.{List}
 use Prim.Native.Nat.{ℕ}
+use native.Mathlib.Omega.{arith}
 use Rattle.record.specs.Layout.{imageCount}
 use Rattle.admission.proofs.Held.{held-sound, changeable-held}
 use Rattle.committed_set.proofs.Known.{known}
@@ -17,7 +18,7 @@ unfolding endLine endLineByImages
 end-law bank set a s p =
     let r = held a in
     let k = known r (held-sound a (changeable-held a s (p .change))) in
-    rw (missing-law set r (k .images-high) (staged-below bank set r (p .staging)), none-absent (imageCount r) set)
+    rw (missing-law set r (omega (arith, k .images-high)) (staged-below bank set r (p .staging)), none-absent (imageCount r) set)
 
 pub call-laws : CallLaws
 call-laws = record { end = end-law }
