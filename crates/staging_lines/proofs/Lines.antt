@@ -9,7 +9,7 @@ use Rattle.record.specs.Layout.{recordOf, copy0, imageCount}
 use Rattle.alterations.specs.Altered.{AtFront}
 use Rattle.alterations.specs.ChangeStores.{changeStores}
 use Rattle.changes.specs.NewRecord.{imageWith, committedRecord, endedRecord}
-use Rattle.committed_set.specs.Set.{joined, missing}
+use Rattle.committed_set.specs.Set.{setBits, joined, missing}
 use Rattle.committed_set.proofs.Bits.{one-shifted}
 use Rattle.gates.specs.declared.Line.the-variants.{Refused, Staging, Restart}
 use Rattle.admission.specs.Lines.{listed}
@@ -22,13 +22,13 @@ pub not-committed : (bank set request : ℕ) (g a s : List ℕ) → imageCount (
 unfolding committed
 not-committed bank set request g a s h = no-image g a s _ h
 
-pub was-committed : (bank set request i n : ℕ) (g a s e : List ℕ) → i ≡ imageWith g (recordOf (copy0 a)) → i < imageCount (recordOf (copy0 a)) → i < 32
+pub was-committed : (bank set request i n : ℕ) (g a s e : List ℕ) → i ≡ imageWith g (recordOf (copy0 a)) → i < imageCount (recordOf (copy0 a)) → i < setBits
     → AtFront n (changeStores a (committedRecord i request (recordOf (copy0 a)))) s e
-    → (Staging bank (bitOr set ((1 * 2 ^ i) % 2 ^ 32)) n, e) ≡ committed bank set g request a s
+    → (Staging bank (bitOr set ((1 * 2 ^ i) % 2 ^ setBits)) n, e) ≡ committed bank set g request a s
 unfolding committed joined
 was-committed bank set request i n g a s e x h l p =
     let r = recordOf (copy0 a) in
-    rw (one-shifted i 32 l)
+    rw (one-shifted i setBits l)
     (was-listed (Staging bank (joined i set)) a (committedRecord i request r) s e n p
     ∙ some-image g a s (λ k. listed (Staging bank (joined k set)) a (committedRecord k request r) s) i x h)
 
