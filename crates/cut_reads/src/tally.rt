@@ -12,8 +12,9 @@ pub struct Tally {
     pub repairs: u64,
     pub reads: u64,
     pub finished: u64,
-    // What must not be: another record is read than the old or the new one, or than before a repair; or copies that are not sound and equal
-    // once a repair has finished; or a start-up that answers something else than the record read gives.
+    // What must not be: another record is read than the old or the new one, or than the old after no store and the new after all, or than before
+    // a repair; or copies that are not sound and equal once the change or a repair has all its stores done; or a start-up that answers something
+    // else than the record read gives.
     pub other: u64,
     // What must not be: the old record is read at a later cut than the new one.
     pub back: u64,
@@ -80,7 +81,7 @@ pub fn read(t: Tally, right: bool, finished: bool) -> Tally {
     }
 }
 
-// A wrong answer of start-up.
+// Whether all else is right after a cut: start-up's answers, and what is read after no store and after all.
 pub fn start(t: Tally, right: bool) -> Tally {
     Tally {
         cuts: t.cuts,

@@ -113,13 +113,28 @@ fn first(a: &mut [u8], pair: &[u8], before: u32, t: Tally) -> Tally {
     first_cuts(a, &from, pair, before, &list, r.stores, tally::repair(t))
 }
 
-// The change, cut after n of its stores, and the repairs behind it.
-fn change_cut(a: &mut [u8], pair: &[u8], list: &[u32], n: usize, t: Tally) -> Tally {
-    apply(a, list, n);
-    let which = seen(a, pair);
+// Whether the old record is read after no store, and after all of them the new one, with both copies sound and equal.
+fn ends_right(a: &[u8], which: u32, n: usize, all: usize) -> bool {
+    if n == 0 && which % 2 == 0 {
+        return false;
+    }
+    n < all || (2 <= which && settled(a))
+}
+
+// The read after n stores of the change.
+fn read_cut(a: &[u8], which: u32, n: usize, all: usize, t: Tally) -> Tally {
     let new_before = t.new != 0;
     let now = tally::cut(t, which, new_before);
-    first(a, pair, which, tally::start(now, starts_right(a)))
+    let right = ends_right(a, which, n, all) && starts_right(a);
+    tally::start(now, right)
+}
+
+// The change, cut after n of its stores, and the repairs behind it.
+fn change_cut(a: &mut [u8], pair: &[u8], list: &[u32], all: usize, n: usize, t: Tally) -> Tally {
+    apply(a, list, n);
+    let which = seen(a, pair);
+    let now = read_cut(a, which, n, all, t);
+    first(a, pair, which, now)
 }
 
 // The change at every cut; at the end the area is as it was.
@@ -131,7 +146,7 @@ fn cuts(a: &mut [u8], from: &[u8], pair: &[u8], list: &[u32], all: usize) -> Tal
     let mut n = 0;
     while n <= all {
         restore(a, from);
-        now = change_cut(a, pair, list, n, now);
+        now = change_cut(a, pair, list, all, n, now);
         n += 1;
     }
     restore(a, from);
