@@ -38,7 +38,7 @@ pub enum Refusal {
     /// 21: "no sound copy".
     NoSoundCopy,
     /// 22: "copies not both sound and equal, start-up and repair aside".
-    CopiesDiffer,
+    NotSoundAndEqual,
     /// 23: "store slice too short".
     StoreSlice,
     /// 24: "Staging whose bank isn't the update bank or isn't 255, or a set bit at or past the image count".
@@ -73,7 +73,7 @@ impl Refusal {
             Refusal::NoItem => 16,
             Refusal::AreaLength => 20,
             Refusal::NoSoundCopy => 21,
-            Refusal::CopiesDiffer => 22,
+            Refusal::NotSoundAndEqual => 22,
             Refusal::StoreSlice => 23,
             Refusal::StagingFault => 24,
             Refusal::SessionState => 25,
@@ -104,7 +104,7 @@ impl Refusal {
             16 => Refusal::NoItem,
             20 => Refusal::AreaLength,
             21 => Refusal::NoSoundCopy,
-            22 => Refusal::CopiesDiffer,
+            22 => Refusal::NotSoundAndEqual,
             23 => Refusal::StoreSlice,
             24 => Refusal::StagingFault,
             25 => Refusal::SessionState,

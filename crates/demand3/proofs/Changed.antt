@@ -11,7 +11,7 @@ use Rattle.fields.specs.Number.{Bytes}
 use Rattle.fields.proofs.Tests.{both, no-true}
 use Rattle.fields.proofs.Bytes.{take-bytes}
 use Rattle.refusals.specs.declared.Refusal.{Refusal}
-use Rattle.refusals.specs.declared.Refusal.the-variants.{AreaLength, NoSoundCopy, CopiesDiffer, StoreSlice, StagingFault, SessionState, NoImage, ImagesMissing}
+use Rattle.refusals.specs.declared.Refusal.the-variants.{AreaLength, NoSoundCopy, NotSoundAndEqual, StoreSlice, StagingFault, SessionState, NoImage, ImagesMissing}
 use Rattle.refusals.specs.Number.{numberOf, valuesOf}
 use Rattle.record.specs.Layout.{areaSize, copySize, recordOf, copy0, copy1, previous, state, imageCount}
 use Rattle.record.specs.Rules.{invalid, acceptedBank, sound, soundCopy}
@@ -56,7 +56,7 @@ admitted q a n e =
     let length-passed = passed (not (eqb (length a) areaSize)) AreaLength _ e in
     let slice-passed = passed (ltb n storeNumbers) StoreSlice _ (length-passed .1) in
     let copy-passed = passed (not (soundCopy (copy0 a) || soundCopy (copy1 a))) NoSoundCopy _ (slice-passed .1) in
-    let equal-passed = passed (not (soundAndEqual a)) CopiesDiffer _ (copy-passed .1) in
+    let equal-passed = passed (not (soundAndEqual a)) NotSoundAndEqual _ (copy-passed .1) in
     let staging-passed = passed (not (stagingFits q (held a))) StagingFault accepted (equal-passed .1) in
     record {
       long = eqb-true (length a) areaSize (not-false (eqb (length a) areaSize) (length-passed .0));

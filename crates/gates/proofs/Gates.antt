@@ -7,7 +7,7 @@ use native.Mathlib.Omega.{arith}
 use borrow.Author.Tests.{eqb-true, ltb-false, eq-eqb, le-ltb}
 use lib.Dec.{eqb, ltb}
 use lib.ListN.{length}
-use Rattle.refusals.specs.declared.Refusal.the-variants.{AreaLength, NoSoundCopy, CopiesDiffer, StoreSlice}
+use Rattle.refusals.specs.declared.Refusal.the-variants.{AreaLength, NoSoundCopy, NotSoundAndEqual, StoreSlice}
 use Rattle.record.specs.Layout.{areaSize, copy0, copy1}
 use Rattle.record.specs.Rules.{soundCopy}
 use Rattle.copies.specs.Copies.{sourceOf, soundAndEqual}
@@ -32,7 +32,7 @@ pub gate-copy0 : (a : List ℕ) (n : ℕ) → length a ≡ areaSize → storeNum
 unfolding areaGate soundCopy
 gate-copy0 a n l h e = rw (eq-eqb (length a) areaSize l, le-ltb n storeNumbers h, from-copy0 a e)
 
-pub gate-copy1 : (a : List ℕ) (n : ℕ) → length a ≡ areaSize → storeNumbers ≤ n → sourceOf a ≡ Copy1 → Shut CopiesDiffer ≡ areaGate a n
+pub gate-copy1 : (a : List ℕ) (n : ℕ) → length a ≡ areaSize → storeNumbers ≤ n → sourceOf a ≡ Copy1 → Shut NotSoundAndEqual ≡ areaGate a n
 unfolding areaGate equalGate soundAndEqual sourceOf
 gate-copy1 a n l h e =
     let p = second (soundCopy (copy0 a)) (soundCopy (copy1 a)) e in rw (eq-eqb (length a) areaSize l, le-ltb n storeNumbers h, p .0, p .1)
@@ -44,7 +44,7 @@ gate-neither a n l h e =
 
 -- what is known past an open gate
 passed : (v w x y : Bool)
-    → cond (not v) (Shut AreaLength) (cond w (Shut StoreSlice) (cond (not x) (Shut NoSoundCopy) (cond (not y) (Shut CopiesDiffer) Open))) ≡ Open
+    → cond (not v) (Shut AreaLength) (cond w (Shut StoreSlice) (cond (not x) (Shut NoSoundCopy) (cond (not y) (Shut NotSoundAndEqual) Open))) ≡ Open
     → (v ≡ true) × (w ≡ false) × (y ≡ true)
 passed true false true true e = (refl, refl, refl)
 passed true false true false e = let q : _≡_ {A = ℕ} 0 1 = cc in absurd (omega arith)

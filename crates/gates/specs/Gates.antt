@@ -5,7 +5,7 @@ use mathlib.Core.Bool.{cond, not, _||_}
 use mathlib.Core.List.{List}
 use lib.Dec.{eqb, ltb}
 use lib.ListN.{length}
-use Rattle.refusals.specs.declared.Refusal.the-variants.{AreaLength, NoSoundCopy, CopiesDiffer, StoreSlice}
+use Rattle.refusals.specs.declared.Refusal.the-variants.{AreaLength, NoSoundCopy, NotSoundAndEqual, StoreSlice}
 use Rattle.record.specs.Layout.{areaSize, copy0, copy1}
 use Rattle.record.specs.Rules.{soundCopy}
 use Rattle.copies.specs.Copies.{soundAndEqual}
@@ -15,7 +15,7 @@ use Rattle.gates.specs.declared.Gate.the-variants.{Open, Shut}
 
 -- 22
 unfoldable pub equalGate : List ℕ → Gate
-equalGate a = cond (not (soundAndEqual a)) (Shut CopiesDiffer) Open
+equalGate a = cond (not (soundAndEqual a)) (Shut NotSoundAndEqual) Open
 
 -- 20, 23, 21, 22
 unfoldable pub areaGate : (a : List ℕ) (sliceLength : ℕ) → Gate

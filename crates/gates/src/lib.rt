@@ -35,7 +35,7 @@ fn admit_equal(area: &[u8]) -> Gate
     ensures { λ g. ⌜ g ≡ equalGate (now (area .entry)) ⌝ }
 {
     if !second_agrees(area) {
-        return Gate::Shut(Refusal::CopiesDiffer);
+        return Gate::Shut(Refusal::NotSoundAndEqual);
     }
     Gate::Open
 }
@@ -53,7 +53,7 @@ pub fn admit_area(area: &[u8], numbers: usize) -> Gate
     let from = read_source(area);
     match from {
         Source::Copy0 => admit_equal(area),
-        Source::Copy1 => Gate::Shut(Refusal::CopiesDiffer),
+        Source::Copy1 => Gate::Shut(Refusal::NotSoundAndEqual),
         Source::Neither => Gate::Shut(Refusal::NoSoundCopy),
     }
 }

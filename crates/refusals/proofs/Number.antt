@@ -3,7 +3,7 @@ use Prim.Native.Nat.{_≤_}
 use native.Mathlib.Omega.{arith}
 use Rattle.refusals.specs.Number.{numberOf}
 use Rattle.refusals.specs.declared.Refusal.{Refusal}
-use Rattle.refusals.specs.declared.Refusal.the-variants.{WindowEnd, DescriptorCount, DescriptorAddress, BlockOutside, TotalLength, TotalZero, NoPlace, CapsuleShort, CapsuleSizes, CapsuleFlags, CapsuleGuid, CapsuleBody, CapsulePayload, NoItem, AreaLength, NoSoundCopy, CopiesDiffer, StoreSlice, StagingFault, SessionState, NoImage, ImagesMissing, BootedBank}
+use Rattle.refusals.specs.declared.Refusal.the-variants.{WindowEnd, DescriptorCount, DescriptorAddress, BlockOutside, TotalLength, TotalZero, NoPlace, CapsuleShort, CapsuleSizes, CapsuleFlags, CapsuleGuid, CapsuleBody, CapsulePayload, NoItem, AreaLength, NoSoundCopy, NotSoundAndEqual, StoreSlice, StagingFault, SessionState, NoImage, ImagesMissing, BootedBank}
 
 pub number-positive : (r : Refusal) → 1 ≤ numberOf r
 number-positive WindowEnd = omega arith
@@ -22,7 +22,7 @@ number-positive CapsulePayload = omega arith
 number-positive NoItem = omega arith
 number-positive AreaLength = omega arith
 number-positive NoSoundCopy = omega arith
-number-positive CopiesDiffer = omega arith
+number-positive NotSoundAndEqual = omega arith
 number-positive StoreSlice = omega arith
 number-positive StagingFault = omega arith
 number-positive SessionState = omega arith

@@ -2,7 +2,7 @@
 use Prim.Native.Nat.{ℕ}
 use mathlib.Core.List.{List, [], _∷_}
 use Rattle.refusals.specs.declared.Refusal.{Refusal}
-use Rattle.refusals.specs.declared.Refusal.the-variants.{WindowEnd, DescriptorCount, DescriptorAddress, BlockOutside, TotalLength, TotalZero, NoPlace, CapsuleShort, CapsuleSizes, CapsuleFlags, CapsuleGuid, CapsuleBody, CapsulePayload, NoItem, AreaLength, NoSoundCopy, CopiesDiffer, StoreSlice, StagingFault, SessionState, NoImage, ImagesMissing, BootedBank}
+use Rattle.refusals.specs.declared.Refusal.the-variants.{WindowEnd, DescriptorCount, DescriptorAddress, BlockOutside, TotalLength, TotalZero, NoPlace, CapsuleShort, CapsuleSizes, CapsuleFlags, CapsuleGuid, CapsuleBody, CapsulePayload, NoItem, AreaLength, NoSoundCopy, NotSoundAndEqual, StoreSlice, StagingFault, SessionState, NoImage, ImagesMissing, BootedBank}
 
 -- Document 01's table, row by row: 1 "B + N above 2^64"; 2, 3, 4, 5 "257th descriptor; descriptor address; block; total"; 6, 7 "total 0; no free
 -- place"; 10 "capsule below 28 bytes"; 11, 12, 13 "sizes; flags; GUID"; 14 "body below 8 bytes, its version, count or offsets"; 15, 16 "a payload at
@@ -28,7 +28,7 @@ told CapsulePayload = (15, [])
 told NoItem = (16, [])
 told AreaLength = (20, [])
 told NoSoundCopy = (21, [])
-told CopiesDiffer = (22, [])
+told NotSoundAndEqual = (22, [])
 told StoreSlice = (23, [])
 told StagingFault = (24, [])
 told SessionState = (25, [])

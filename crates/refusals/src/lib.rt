@@ -36,7 +36,7 @@ pub enum Refusal {
     // No copy is sound.
     NoSoundCopy,
     // The copies are not both sound and equal.
-    CopiesDiffer,
+    NotSoundAndEqual,
     // The store slice is too short.
     StoreSlice,
     // A Staging session whose bank is not the update bank or not 255, or whose set has a bit at or past the image count.
@@ -73,7 +73,7 @@ impl Refusal {
             Refusal::NoItem => 16,
             Refusal::AreaLength => 20,
             Refusal::NoSoundCopy => 21,
-            Refusal::CopiesDiffer => 22,
+            Refusal::NotSoundAndEqual => 22,
             Refusal::StoreSlice => 23,
             Refusal::StagingFault => 24,
             Refusal::SessionState => 25,

@@ -7,7 +7,7 @@ use native.Mathlib.Omega.{arith}
 use lib.Dec.{eqb, ltb}
 use lib.ListN.{length}
 use Rattle.refusals.specs.declared.Refusal.{Refusal}
-use Rattle.refusals.specs.declared.Refusal.the-variants.{AreaLength, NoSoundCopy, CopiesDiffer, StoreSlice, StagingFault}
+use Rattle.refusals.specs.declared.Refusal.the-variants.{AreaLength, NoSoundCopy, NotSoundAndEqual, StoreSlice, StagingFault}
 use Rattle.record.specs.Layout.{areaSize, copy0, copy1, imageCount}
 use Rattle.record.specs.Rules.{soundCopy}
 use Rattle.copies.specs.Copies.{soundAndEqual}
@@ -35,8 +35,8 @@ decided Open rest = rest
 decided (Shut why) rest = refused why
 
 by-gate : (v w x y : Bool) (rest : Decision)
-    → decided (cond (not v) (Shut AreaLength) (cond w (Shut StoreSlice) (cond (not x) (Shut NoSoundCopy) (cond (not y) (Shut CopiesDiffer) Open)))) rest
-    ≡ cond (not v) (refused AreaLength) (cond w (refused StoreSlice) (cond (not x) (refused NoSoundCopy) (cond (not y) (refused CopiesDiffer) rest)))
+    → decided (cond (not v) (Shut AreaLength) (cond w (Shut StoreSlice) (cond (not x) (Shut NoSoundCopy) (cond (not y) (Shut NotSoundAndEqual) Open)))) rest
+    ≡ cond (not v) (refused AreaLength) (cond w (refused StoreSlice) (cond (not x) (refused NoSoundCopy) (cond (not y) (refused NotSoundAndEqual) rest)))
 unfolding decided
 by-gate false w x y rest = refl
 by-gate true true x y rest = refl

@@ -7,7 +7,7 @@ use mathlib.Core.List.{List}
 use lib.Dec.{eqb, ltb}
 use lib.ListN.{length}
 use Rattle.refusals.specs.declared.Refusal.{Refusal}
-use Rattle.refusals.specs.declared.Refusal.the-variants.{AreaLength, NoSoundCopy, CopiesDiffer, StoreSlice, StagingFault, SessionState, NoImage, ImagesMissing}
+use Rattle.refusals.specs.declared.Refusal.the-variants.{AreaLength, NoSoundCopy, NotSoundAndEqual, StoreSlice, StagingFault, SessionState, NoImage, ImagesMissing}
 use Rattle.record.specs.Layout.{areaSize, recordOf, copy0, copy1, active, previous, state, imageCount}
 use Rattle.record.specs.Rules.{acceptedBank, allAccepted, soundCopy}
 use Rattle.copies.specs.Copies.{soundAndEqual}
@@ -52,7 +52,7 @@ admission q a sliceLength =
     cond (not (eqb (length a) areaSize)) (refused AreaLength)
     (cond (ltb sliceLength storeNumbers) (refused StoreSlice)
     (cond (not (soundCopy (copy0 a) || soundCopy (copy1 a))) (refused NoSoundCopy)
-    (cond (not (soundAndEqual a)) (refused CopiesDiffer)
+    (cond (not (soundAndEqual a)) (refused NotSoundAndEqual)
     (cond (not (stagingFits q (held a))) (refused StagingFault) accepted))))
 
 -- a call that is admitted goes on with its own line

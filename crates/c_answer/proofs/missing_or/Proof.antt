@@ -8,7 +8,7 @@ use borrow.Author.Needs.{needs}
 use Rattle.refusals.proofs.Refusal.{the-type}
 use Rattle.refusals.specs.Number.{numberOf, valuesOf}
 use Rattle.refusals.specs.declared.Refusal.{Refusal}
-use Rattle.refusals.specs.declared.Refusal.the-variants.{WindowEnd, DescriptorCount, DescriptorAddress, BlockOutside, TotalLength, TotalZero, NoPlace, CapsuleShort, CapsuleSizes, CapsuleFlags, CapsuleGuid, CapsuleBody, CapsulePayload, NoItem, AreaLength, NoSoundCopy, CopiesDiffer, StoreSlice, StagingFault, SessionState, NoImage, ImagesMissing, BootedBank}
+use Rattle.refusals.specs.declared.Refusal.the-variants.{WindowEnd, DescriptorCount, DescriptorAddress, BlockOutside, TotalLength, TotalZero, NoPlace, CapsuleShort, CapsuleSizes, CapsuleFlags, CapsuleGuid, CapsuleBody, CapsulePayload, NoItem, AreaLength, NoSoundCopy, NotSoundAndEqual, StoreSlice, StagingFault, SessionState, NoImage, ImagesMissing, BootedBank}
 use Rattle.c_answer.specs.Answers.{missingOr}
 use Rattle.c_answer.proofs.missing_or.Statement.{statement}
 use Rattle.c_answer.proofs.missing_or.Tie as tie
@@ -34,7 +34,7 @@ silent CapsulePayload told h = refl
 silent NoItem told h = refl
 silent AreaLength told h = refl
 silent NoSoundCopy told h = refl
-silent CopiesDiffer told h = refl
+silent NotSoundAndEqual told h = refl
 silent StoreSlice told h = refl
 silent StagingFault told h = refl
 silent SessionState told h = refl
