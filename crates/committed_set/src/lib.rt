@@ -10,7 +10,7 @@ ghost use Rattle.record.specs.Rules.{sound};
 ghost use Rattle.committed_set.specs.Set.{missing, stagedFits};
 
 // "a 32-bit set of committed images".
-pub const SET_BITS: u32 = 32;
+const SET_BITS: u32 = 32;
 
 // Whether a Staging session is free of 24. The bank is looked up only where it is the update bank: a session may name any number.
 pub fn staged(r: &[u8], bank: u32, set: u32) -> bool
@@ -24,7 +24,7 @@ pub fn staged(r: &[u8], bank: u32, set: u32) -> bool
     if r[at] != 255 {
         return false;
     }
-    // no bit at or past the image count: as many bits as are left of the set's stand above its highest one, or more
+    // no bit at or past the image count: so many zeros stand at the set's top that with the images they make its width, or more
     let images = read16(r, 34) as u32;
     SET_BITS <= images + u32::leading_zeros(set)
 }

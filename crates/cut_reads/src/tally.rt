@@ -81,7 +81,7 @@ pub fn read(t: Tally, right: bool, finished: bool) -> Tally {
     }
 }
 
-// Whether all else is right after a cut: start-up's answers, and what is read after no store and after all.
+// Counts one wrong unless all else is right after a cut: start-up's answers, and what is read after no store and after all.
 pub fn start(t: Tally, right: bool) -> Tally {
     Tally {
         cuts: t.cuts,

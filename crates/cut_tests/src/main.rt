@@ -113,7 +113,8 @@ fn first(a: &mut [u8], pair: &[u8], before: u32, t: Tally) -> Tally {
     first_cuts(a, &from, pair, before, &list, r.stores, tally::repair(t))
 }
 
-// Whether the old record is read after no store, and after all of them the new one, with both copies sound and equal.
+// Whether the old record is read after no store, and after all of them the new one, with both copies sound and equal. The new one is what the list
+// itself leaves in copy 0: that it is the right one, random_tests compares.
 fn ends_right(a: &[u8], which: u32, n: usize, all: usize) -> bool {
     if n == 0 && which % 2 == 0 {
         return false;

@@ -179,7 +179,8 @@ pub record Repairs (a : List ℕ) (ss : List Store) : Type 0 where
 -- from what that cut left, or from any other area with a sound copy." That a is bytes is all that a change asks of it: that
 -- it is an area with two sound and equal copies is what the calls are refused for otherwise. No clause has a premise about the checksum.
 -- That calls and repairs are accepted at all is for their own clauses to say; proofs/Sample.antt has one of each
---     makes            the new record has the old one's fields but for what the call's line alters, and the old one's bytes elsewhere
+--     makes            the new record has the old one's fields but for what the call's line alters, and the old one's bytes elsewhere but for the
+--                      CRC's, which its soundness fixes
 --     change           one change, its cut, and the whole list
 --     change-listed    the stores of a change are those that its answer counts, in the slice that was lent
 --     anywhere         any other area with a sound copy

@@ -19,8 +19,8 @@ pub enum Gate {
     Shut(Refusal),
 }
 
-// What a call's own line gives, or the call with its gate before it: a refusal; or the session that it leads to, and how many pairs stand in the store list. No call leads to
-// Fallback.
+// What a call's own line gives, or the call with its gate before it: a refusal; or the session that it leads to, and how many pairs stand in
+// the store list. No call leads to Fallback.
 pub enum Line {
     Refused(Refusal),
     Regular(usize),

@@ -24,7 +24,7 @@ use Rattle.record.proofs.Sizes.{bank-in, header-in}
 use Rattle.record.proofs.Sound.{All, all-of, sound-sized}
 use Rattle.alterations.specs.Fields.{setState, setAccepted, withCrc}
 use Rattle.changes.specs.NewRecord.{updateBankOf, begunRecord, committedRecord, marked, acceptedRecord}
-use Rattle.kept_sound.specs.Fields.{Fields, fieldsOf, Reads}
+use Rattle.kept_sound.specs.Fields.{Fields, fieldsOf, FieldsAre}
 use Rattle.kept_sound.specs.Kept.{Follows, CallsFollow}
 use Rattle.kept_sound.proofs.Crc.{crc-low}
 use Rattle.kept_sound.proofs.Good.{Good, bankFits, update-low}
@@ -104,7 +104,7 @@ module _ (r : List ℕ) (small : Bytes r) (e : sound r ≡ true) where
       word-none r (acceptedAt (bankCount r) i (active r)) 1 small (omega (arith, fits)) (omega arith) h in
       rw m (ap withCrc (state-none (allAccepted r (active r)) refl) ∙ crc-none)
 
-  staged-in : (new : List ℕ) (f : Fields) → Reads r new f → f .active-bank ≡ active r → f .states (updateBankOf r) ≡ invalid
+  staged-in : (new : List ℕ) (f : Fields) → FieldsAre r new f → f .active-bank ≡ active r → f .states (updateBankOf r) ≡ invalid
       → state new (updateBankOf new) ≡ invalid
   staged-in new f w a h =
       let low : updateBankOf r < 4 = omega (arith, update-low (bankCount r) (active r) (sized .banks-low), sized .banks-high) in

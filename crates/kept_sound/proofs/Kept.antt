@@ -10,7 +10,7 @@ use Rattle.record.specs.Sized.{Sized}
 use Rattle.record.proofs.Sound.{sound-sized}
 use Rattle.alterations.specs.Fields.{withCrc}
 use Rattle.changes.specs.NewRecord.{updateBankOf, begunRecord, committedRecord, endedRecord, acceptedRecord, exchangedRecord}
-use Rattle.kept_sound.specs.Fields.{Fields, fieldsOf, Reads, FieldsMade, CallsMake}
+use Rattle.kept_sound.specs.Fields.{Fields, fieldsOf, FieldsAre, FieldsMade, CallsMake}
 use Rattle.kept_sound.specs.Kept.{Kept, KeptSound, CallsKeepSound}
 use Rattle.kept_sound.proofs.Says.{Says, says-crc, crc-agrees}
 use Rattle.kept_sound.proofs.Good.{Good, update-low, update-differs, good-begun, good-committed, good-ended, good-accepted, good-exchanged}
@@ -43,7 +43,7 @@ module _ (r : List ℕ) (small : Bytes r) (e : sound r ≡ true) where
           long = finished .long;
         }
 
-    reads : Reads r (withCrc x) f
+    reads : FieldsAre r (withCrc x) f
     reads =
         record {
           active-is = finished .active-is;

@@ -97,7 +97,7 @@ pub record Elsewhere (banks images k : ℕ) : Type 0 where
   pub off-flags : (i b : ℕ) → i < images → b < banks → Outside (acceptedAt banks i b) 4 k
 
 -- the new record read: it has those fields; each byte elsewhere is the old record's, so it has as many banks and images, of the same types
-pub record Reads (r new : List ℕ) (f : Fields) : Type 0 where
+pub record FieldsAre (r new : List ℕ) (f : Fields) : Type 0 where
   pub active-is : active new ≡ f .active-bank
   pub previous-is : previous new ≡ f .previous-bank
   pub state-is : (b : ℕ) → b < bankLimit → state new b ≡ f .states b
@@ -109,11 +109,11 @@ pub record Reads (r new : List ℕ) (f : Fields) : Type 0 where
 
 -- the record that each call makes, read
 pub record FieldsMade (r : List ℕ) : Type 0 where
-  pub begin : Reads r (begunRecord r) (begun (updateBankOf r) (fieldsOf r))
-  pub commit : (i request : ℕ) → i < imageCount r → Reads r (committedRecord i request r) (committed i request (updateBankOf r) (fieldsOf r))
-  pub end : Reads r (endedRecord r) (ended (imageCount r) (updateBankOf r) (fieldsOf r))
-  pub accept : (i : ℕ) → i < imageCount r → Reads r (acceptedRecord i r) (acceptedOf (imageCount r) i (fieldsOf r))
-  pub select-previous : Reads r (exchangedRecord r) (exchanged (fieldsOf r))
+  pub begin : FieldsAre r (begunRecord r) (begun (updateBankOf r) (fieldsOf r))
+  pub commit : (i request : ℕ) → i < imageCount r → FieldsAre r (committedRecord i request r) (committed i request (updateBankOf r) (fieldsOf r))
+  pub end : FieldsAre r (endedRecord r) (ended (imageCount r) (updateBankOf r) (fieldsOf r))
+  pub accept : (i : ℕ) → i < imageCount r → FieldsAre r (acceptedRecord i r) (acceptedOf (imageCount r) i (fieldsOf r))
+  pub select-previous : FieldsAre r (exchangedRecord r) (exchanged (fieldsOf r))
 
 abbrev pub CallsMake : Type 0
 CallsMake = (r : List ℕ) → Bytes r → sound r ≡ true → FieldsMade r

@@ -1,5 +1,5 @@
--- The rules on the lists of stores (document 01, "Session and calls"), in the product's own definitions: where each store lies, that it is one word, and how many
--- there are. a is the bytes of an area, c those of a copy, r and new those of a record. Assumes nothing.
+-- The rules on the lists of stores (document 01, "Session and calls"), in the product's own definitions: where each store lies, that it is one
+-- word, and how many there are. a is the bytes of an area, c those of a copy, r and new those of a record. Assumes nothing.
 use Prim.Native.Nat.{ℕ, _+_, _*_, _/_, _%_, _^_, _≤_, _<_}
 use mathlib.Core.Path.{_≡_}
 use mathlib.Core.Logic.{_⊎_}
@@ -35,7 +35,7 @@ InEither n s = Placed 0 n s ⊎ Placed copySize n s
 abbrev pub InWord : Store → Type 0
 InWord s = s .1 < 2 ^ 32
 
--- "else the record read goes into the other copy": where that copy stands, of the copy that is read
+-- "else the record read goes into the other copy": where that copy stands, of the copy that is read. Where none is read there is no store
 abbrev pub otherAt : Source → ℕ
 otherAt Copy0 = copySize
 otherAt Copy1 = 0

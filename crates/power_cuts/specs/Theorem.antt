@@ -1,6 +1,6 @@
--- What survives a cut, over any format of the record and any writer of its copies; demand 3 itself is crates/demand3. a is the bytes of an area; old is the record that
--- both copies hold before a change, new the one that the change makes of it; n is how many of the stores listed are done before the cut; es is
--- a list of start-ups and repairs. Assumes nothing.
+-- What survives a cut, over any format of the record and any writer of its copies; demand 3 itself is crates/demand3. a is the bytes of an area;
+-- old is the record that both copies hold before a change, new the one that the change makes of it; n is how many of the stores listed are done
+-- before the cut; es is a list of start-ups and repairs. Assumes nothing.
 use Prim.Native.Nat.{ℕ, _≤_}
 use mathlib.Core.Path.{_≡_}
 use mathlib.Core.Logic.{_⊎_}

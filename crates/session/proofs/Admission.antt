@@ -85,7 +85,7 @@ other-admission q a n e =
     ∙ ap (λ (b : Bool). decided (areaGate a n) (cond (not b) (refused StagingFault) accepted)) e
     ∙ admission-by-gate q a n
 
--- a call that is admitted, of which `end-law` (CallLaws) speaks
+-- a call that is admitted, of which the law of End (CallLaws) makes use
 opened : (g : Gate) (rest : Decision) → accepted ≡ decided g rest → (g ≡ Open) × (accepted ≡ rest)
 unfolding decided
 opened Open rest e = (refl, e)

@@ -15,7 +15,7 @@ use Rattle.session.specs.declared.Session.the-variants.{Regular, Staging
 use Rattle.session.specs.Outcome.{Decision, accepted, refusal, refused, Outcome, refusedWith, acceptedWith}
 use Rattle.session.specs.Calls.{held, stagingFits}
 
--- a call that none of 20, 23, 21, 22 and 24 refuses (`admitted`, proofs/Admission.antt), for the law of End in CallLaws.antt
+-- a call that none of 20, 23, 21, 22 and 24 refuses (`admitted`, proofs/Admission.antt), for the law of End (proofs/CallLaws.antt)
 pub record Admitted (q : Session) (a s : List ℕ) : Type 0 where
   pub change : Changeable a s
   pub staging : stagingFits q (held a) ≡ true

@@ -10,8 +10,7 @@ use Rattle.record.specs.Layout.{imageCount}
 use Rattle.changes.specs.NewRecord.{endedRecord}
 use Rattle.committed_set.specs.SetLaws.{everyIn, absent}
 use Rattle.session.specs.declared.Session.the-variants.{Staging, Restart}
-use Rattle.session.specs.Calls.{Result, held, refusedCall, changedTo, endLine}
-use Rattle.session.specs.Admitted.{Admitted}
+use Rattle.session.specs.Calls.{Result, held, refusedCall, changedTo, called, endCall}
 
 -- End's own line, without a count of ones
 unfoldable pub endLineByImages : (bank set : ℕ) (a s : List ℕ) → Result
@@ -20,6 +19,6 @@ endLineByImages bank set a s =
     (changedTo Restart a (endedRecord (held a)) s)
     (refusedCall (Staging bank set) (ImagesMissing (absent (imageCount (held a)) set)) s)
 
--- an admitted End is refused with 27 exactly if an image is not in the set, and tells how many are not
+-- End, called with a Staging session, is its line by images past what comes before it: 27 exactly if an image is not in the set, with how many are not
 pub record CallLaws : Type 0 where
-  pub end : (bank set : ℕ) (a s : List ℕ) → Admitted (Staging bank set) a s → endLine (Staging bank set) a s ≡ endLineByImages bank set a s
+  pub end : (bank set : ℕ) (a s : List ℕ) → endCall (Staging bank set) a s ≡ called (Staging bank set) a s (endLineByImages bank set a s)

@@ -33,7 +33,7 @@ accepted-word-requires c κs =
     let l = c .before in
     let s = l .before .before in
     let a = s .args in
-    (by-field (a .r .now) (a .banks) (a .images) (s .pre .0), rw (s .pre .0 .images-is) (c .loop-test .taken), s .pre .1)
+    (by-field (a .r .now) (a .banks) (a .images) (s .pre .0), omega (arith, s .pre .0 .images-is, c .loop-test .taken), s .pre .1)
 
 returns : tie.Need-returns Inv-loop μ-loop
 unfolding allAccepted

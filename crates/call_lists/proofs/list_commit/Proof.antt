@@ -1,4 +1,5 @@
 -- `list_commit` meets its contract. Assumes nothing.
+use native.Mathlib.Omega.{arith}
 use borrow.Author.Needs.{needs}
 use mathlib.Core.Path.{sym}
 use Rattle.change_lists.proofs.Listing.{equal-sound}
@@ -11,7 +12,7 @@ record-in-copy0-requires c κs = search needs
 commit-alteration-requires : tie.Need-commit-alteration-requires
 commit-alteration-requires c κs =
     let s = c .before .before .before in
-    (rw (c .record-in-copy0 .ensures) (equal-sound (s .args .area .now) (s .pre .0 .equal)), rw (c .record-in-copy0 .ensures) (s .pre .1))
+    (rw (c .record-in-copy0 .ensures) (equal-sound (s .args .area .now) (s .pre .0 .equal)), rw (c .record-in-copy0 .ensures) (omega (arith, s .pre .1)))
 
 list-change-requires : tie.Need-list-change-requires
 list-change-requires c κs =

@@ -14,7 +14,7 @@ cast-accepted-word : tie.Need-cast-accepted-word
 cast-accepted-word c = omega (arith, c .shared-slice-known2 .given 32)
 
 accepted-word-requires : tie.Need-accepted-word-requires
-accepted-word-requires c κs = let s = c .before .before .before in (sound-sized (s .args .r .now) (s .pre .0), s .pre .1, s .pre .2)
+accepted-word-requires c κs = let s = c .before .before .before in (sound-sized (s .args .r .now) (s .pre .0), s .pre .1, omega (arith, s .pre .2))
 
 slice-aggregate-line-of-three : tie.Need-slice-aggregate-line-of-three
 slice-aggregate-line-of-three c = search needs
