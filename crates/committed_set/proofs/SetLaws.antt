@@ -131,7 +131,7 @@ joined-below i n set h l = or-lt n set (2 ^ i) l (pow-lt h)
 -- a number below a power of 2 has no bit from there on
 none-from : (n set : ℕ) → set < 2 ^ n → NoneFrom n set
 unfolding inSet
-none-from n set h j l = rw (div-eq-of-lt (lt-of-lt-of-le h (pow-mono l)))
+none-from n set h j l = let k : n ≤ j = omega arith in rw (div-eq-of-lt (lt-of-lt-of-le h (pow-mono k)))
 
 -- a number is below some power of 2, and without the bits from n on below that of n
 grows : (n : ℕ) → n < 2 ^ n
