@@ -41,7 +41,7 @@ fn held_record(area: &[u8]) -> &[u8]
 }
 
 // `staged`, of the record that both copies hold. The functions that end in `_in` read that record.
-pub fn staged_in(area: &[u8], bank: u32, set: u32) -> bool
+fn staged_in(area: &[u8], bank: u32, set: u32) -> bool
     requires { ⌜ Held (now area) ⌝ }
     ensures { λ b. ⌜ b ≡ stagedFits bank set (recordOf (copy0 (now (area .entry)))) ⌝ }
 {

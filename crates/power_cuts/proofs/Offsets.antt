@@ -17,9 +17,11 @@ use Rattle.copies.specs.declared.Source.the-variants.{Copy0, Copy1, Neither}
 use Rattle.copies.proofs.Reading.{from-copy0, from-copy1}
 use Rattle.stores.specs.Stores.{Store, store, shift, storeNumbers, otherWords, differing, writes, plan}
 use Rattle.stores.specs.Added.{copyPairs}
-use Rattle.power_cuts.specs.Version2.{recordLength, otherStores, repairStores}
+use Rattle.power_cuts.specs.Format as format
+use Rattle.power_cuts.specs.Version2.{version2, otherStores, repairStores}
 use Rattle.alterations.specs.ChangeStores.{copyStores, changeStores}
 use Rattle.power_cuts.specs.Offsets.{Placed, Each, InEither, InWord, otherAt, StoreRules}
+use Rattle.power_cuts.proofs.Copy.{record-bytes}
 use Rattle.power_cuts.proofs.Plan.{offsets-high, offsets-aligned, length-offsets, differing-mem, length-differing}
 use Rattle.power_cuts.proofs.Version2.{in-words, record-high}
 
@@ -158,15 +160,11 @@ repair-count : (a : List ℕ) → 2 * length (repairStores a) ≤ storeNumbers
 unfolding repairStores
 repair-count a = omega (arith, spared-few (soundAndEqual a) (otherStores (sourceOf a) a) (other-few a (sourceOf a) refl))
 
-record-bytes : (c : List ℕ) → Bytes c → Bytes (recordOf c)
-unfolding recordOf
-record-bytes c b = take-bytes (recordLength c) c b
-
 other-in-words : (a : List ℕ) (s : Source) → Bytes a → Each InWord (otherStores s a)
-unfolding otherStores readFrom
-other-in-words a Copy0 b = plan-words copySize (copy1 a) (recordOf (copy0 a)) (record-bytes (copy0 a) (take-bytes copySize a b))
+unfolding otherStores readFrom recordOf format.recordOf version2
+other-in-words a Copy0 b = plan-words copySize (copy1 a) (recordOf (copy0 a)) (record-bytes version2 (copy0 a) (take-bytes copySize a b))
 other-in-words a Copy1 b =
-    plan-words 0 (copy0 a) (recordOf (copy1 a)) (record-bytes (copy1 a) (take-bytes copySize (drop copySize a) (drop-bytes copySize a b)))
+    plan-words 0 (copy0 a) (recordOf (copy1 a)) (record-bytes version2 (copy1 a) (take-bytes copySize (drop copySize a) (drop-bytes copySize a b)))
 other-in-words a Neither b = tt
 
 repair-words : (a : List ℕ) → Bytes a → Each InWord (repairStores a)

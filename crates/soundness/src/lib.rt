@@ -84,7 +84,7 @@ fn last_eight(r: &[u8], banks: usize, images: usize) -> bool
 }
 
 // Whether a record is sound.
-pub fn sound_record(r: &[u8]) -> bool
+fn sound_record(r: &[u8]) -> bool
     requires { ⌜ 40 ≤ length (now r) ⌝ }
     ensures { λ b. ⌜ b ≡ sound (now (r .entry)) ⌝ }
 {
