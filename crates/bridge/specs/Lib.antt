@@ -1,0 +1,2 @@
+-- The new definitions beside the old. Assumes nothing.
+pub mod Bridge

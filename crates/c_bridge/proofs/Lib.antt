@@ -1,0 +1,2 @@
+-- The answers in numbers are the same.
+pub mod ExportBridge

@@ -1,0 +1,1 @@
+// The exported functions answer the same numbers: specs and proofs alone.

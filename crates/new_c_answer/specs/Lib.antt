@@ -1,0 +1,2 @@
+-- An answer in numbers. Assumes nothing.
+pub mod Answers

@@ -1,0 +1,2 @@
+-- A session in numbers. Assumes nothing.
+pub mod Numbers

@@ -1,0 +1,3 @@
+-- The record that each call makes of the old one, over Change. Assumes nothing.
+pub mod NewRecord
+pub mod Changed

@@ -1,0 +1,1 @@
+// Demand 3, as the re-shaped product states it: specs alone.

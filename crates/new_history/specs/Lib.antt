@@ -1,0 +1,2 @@
+-- One history of start-ups, repairs and calls. Assumes nothing.
+pub mod History

@@ -1,0 +1,1 @@
+// One history, as the re-shaped product states it: specs alone.

@@ -1,0 +1,3 @@
+-- Repair. Assumes nothing.
+pub mod RepairStores
+pub mod Repair

@@ -1,0 +1,2 @@
+-- The bench sheet. Assumes nothing.
+pub mod Sheet

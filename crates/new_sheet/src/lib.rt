@@ -1,0 +1,1 @@
+// The bench sheet, as the re-shaped product states it: specs alone.

@@ -1,0 +1,2 @@
+-- Start-up. Assumes nothing.
+pub mod StartUp
