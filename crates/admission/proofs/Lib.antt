@@ -1,4 +1,2 @@
--- Laws of the record that both copies hold and of the lines, for the proofs here and in the crates above.
-pub mod Held
-pub mod Lines
-pub mod Gated
+-- 20, 23, 21 and 22 by the copy that is read, for the proofs here and in the crates above.
+pub mod Area

@@ -1,3 +1,2 @@
--- The record that both copies hold, and what a call's line gives over numbers. Assumes nothing.
-pub mod Held
-pub mod Lines
+-- What is tested of an area and a store slice. Assumes nothing.
+pub mod Rows

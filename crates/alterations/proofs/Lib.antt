@@ -2,3 +2,5 @@
 pub mod Places
 pub mod Words
 pub mod Same
+pub mod Walk
+pub mod Stays

@@ -1,4 +1,5 @@
--- Where the accepted words stand: apart from each other and from the header, whole words, each told by its offset. Assumes nothing.
+-- Where the accepted words stand: apart from each other and from the header, whole words, each told by its offset.
+-- Assumes nothing.
 use mathlib.Core.Path.{_≡_, sym, ap, _∙_}
 use mathlib.Core.Logic.{_⊎_, inl, inr, ⊎-elim}
 use Prim.Native.Nat.{ℕ, suc, _+_, _*_, _-_, _/_, _%_, _<_, _≤_}
@@ -40,11 +41,11 @@ module _ (banks b : ℕ) (below : b < banks) where
   place-apart i o whole other = words-apart o (acceptedAt banks i b) whole (place-whole i) other
 
   -- image and place in its entry, from the offset
-  pub place-told : (i o : ℕ) → o ≡ acceptedAt banks i b → ((o - headerSize) / entrySize banks ≡ i) × ((o - headerSize) % entrySize banks ≡ 48 + 24 * b)
+  pub place-told : (i o : ℕ) → o ≡ acceptedAt banks i b → ((o - headerSize) / entrySize banks ≡ i) × ((o - headerSize) % entrySize banks ≡ 32 + 24 * b + 16)
   place-told i o e =
-      let d : o - headerSize ≡ i * entrySize banks + (48 + 24 * b) = omega arith in
-      let small : 48 + 24 * b < entrySize banks = omega arith in
+      let d : o - headerSize ≡ i * entrySize banks + (32 + 24 * b + 16) = omega arith in
+      let small : 32 + 24 * b + 16 < entrySize banks = omega arith in
       (ap (λ (k : ℕ). k / entrySize banks) d ∙ digits-div i small, ap (λ (k : ℕ). k % entrySize banks) d ∙ digits-mod i small)
 
-  pub place-of : (o : ℕ) → headerSize ≤ o → (o - headerSize) % entrySize banks ≡ 48 + 24 * b → o ≡ acceptedAt banks ((o - headerSize) / entrySize banks) b
+  pub place-of : (o : ℕ) → headerSize ≤ o → (o - headerSize) % entrySize banks ≡ 32 + 24 * b + 16 → o ≡ acceptedAt banks ((o - headerSize) / entrySize banks) b
   place-of o h e = omega (arith, div-add-mod' (o - headerSize) (entrySize banks))

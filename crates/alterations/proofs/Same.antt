@@ -1,6 +1,6 @@
 -- Whether two lists of whole words are the same, word by word. Assumes nothing.
-use mathlib.Core.Path.{_≡_, sym, ap, _∙_}
-use mathlib.Core.Bool.{true, false}
+use mathlib.Core.Path.{_≡_, sym, ap}
+use mathlib.Core.Bool.{false}
 use mathlib.Core.List.{List}
 use mathlib.Core.Logic.{⊎-elim}
 use Prim.Native.Nat.{ℕ, _+_, _*_, _/_, _≤_}
@@ -9,7 +9,7 @@ use lib.ListN.{length}
 use Rattle.fields.specs.Guid.{same}
 use Rattle.fields.specs.Number.{Bytes, le}
 use Rattle.fields.proofs.Bytes.{words-same}
-use Rattle.fields.proofs.Guid.{same-refl, same-false}
+use Rattle.fields.proofs.Guid.{same-false}
 use Rattle.fields.proofs.Tests.{le-or-lt}
 
 -- the words below o are
@@ -27,10 +27,8 @@ module _ (x y : List ℕ) where
       ⊎-elim (λ q. p k whole q) (λ q. let z : k ≡ o = omega arith in rw z e) (le-or-lt (k + 4) o)
 
   -- all of them
-  pub agree-all : (o : ℕ) → Bytes x → Bytes y → length x ≡ length y → 4 * (length x / 4) ≡ length x → length x ≤ o → Agree x y o → true ≡ same x y
-  agree-all o bx by l whole h p =
-      let e : x ≡ y = words-same x y bx by l whole (λ k w q. p k w (omega arith)) in
-      sym (ap (same x) (sym e) ∙ same-refl x)
+  pub agree-all : (o : ℕ) → Bytes x → Bytes y → length x ≡ length y → 4 * (length x / 4) ≡ length x → length x ≤ o → Agree x y o → x ≡ y
+  agree-all o bx by l whole h p = words-same x y bx by l whole (λ k w q. p k w (omega arith))
 
   -- one that differs
   pub word-other : (o : ℕ) → (le 4 x o ≡ le 4 y o → ⊥) → false ≡ same x y

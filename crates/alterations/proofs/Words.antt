@@ -186,13 +186,6 @@ module _ (x : Alteration) (r : List ℕ) (banks : ℕ) (a : Alterable x r banks)
       (⊎-elim inl (λ p. ⊎-elim (λ q. absurd (omega (arith, p, q))) inr (words-apart o 12 whole refl n12)) (words-apart o 8 whole refl n8))
       (words-apart o 24 whole refl n24)
 
-  pub altered-bankCount : bankCount (alteredBy x r) ≡ bankCount r
-  unfolding le
-  altered-bankCount = omega (arith, altered-header 1 32 (omega arith) (inr (omega arith)) (inr (omega arith)))
-
-  pub altered-imageCount : imageCount (alteredBy x r) ≡ imageCount r
-  altered-imageCount = altered-header 2 34 (omega arith) (inr (omega arith)) (inr (omega arith))
-
   -- the words of the entries
   pub altered-miss : (o : ℕ) → 40 ≤ o → 4 * (o / 4) ≡ o → ((j : ℕ) → j < x .count → o ≡ acceptedAt banks (x .first + j) (x .bank) → ⊥)
       → le 4 (alteredBy x r) o ≡ le 4 r o
@@ -229,10 +222,3 @@ module _ (x : Alteration) (r : List ℕ) (banks : ℕ) (a : Alterable x r banks)
 
   pub new-version : le 4 (recordWith x r) 4 ≡ le 4 r 4
   new-version = new-apart 4 4 (omega arith) ∙ altered-header 4 4 (omega arith) (inl (omega arith)) (inl (omega arith))
-
-  pub new-bankCount : bankCount (recordWith x r) ≡ bankCount r
-  unfolding le
-  new-bankCount = omega (arith, new-apart 1 32 (omega arith), altered-bankCount)
-
-  pub new-imageCount : imageCount (recordWith x r) ≡ imageCount r
-  new-imageCount = new-apart 2 34 (omega arith) ∙ altered-imageCount

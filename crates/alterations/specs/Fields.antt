@@ -1,5 +1,5 @@
--- A record with one field anew (document 01, "Power cuts": "The new one is the old with what the call's line above alters, its CRC worked
--- anew."). r is the bytes of a record. Assumes nothing.
+-- A record with one field anew (document 01, "Power cuts": "The new one is the old with what the call's line above
+-- alters, its CRC worked anew."). r is the bytes of a record. Assumes nothing.
 use Prim.Native.Nat.{ℕ}
 use mathlib.Core.List.{List, [], _∷_}
 use Rattle.fields.specs.Number.{bytes, put}

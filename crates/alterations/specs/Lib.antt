@@ -1,4 +1,3 @@
--- A record with some of its words anew, and the stores that put it into both copies. Assumes nothing.
+-- A record with some of its words anew. Assumes nothing.
 pub mod Fields
-pub mod ChangeStores
 pub mod Altered

@@ -1,17 +1,31 @@
-// A record with some of its words anew (document 01, "Power cuts": "The new one is the old with what the call's line above alters, its CRC
-// worked anew."). The new record stands nowhere in memory: each of its words is told from the old record and the alteration.
+// A record with some of its words anew (document 01, "Power cuts": "The new one is the old with what the call's line
+// above alters, its CRC worked anew."). The new record stands nowhere in memory: each of its words is told from the old
+// record and the alteration.
 use crc::ALL_ONES;
 use crc::with_word;
 use fields::read32;
+use record::ACCEPTED_FROM;
+use record::ACTIVE_AT;
+use record::BANK_ENTRY;
+use record::BANKS_FROM;
 use record::HEADER;
+use record::PREVIOUS_AT;
+use record::STATES_AT;
+use record::VERSION_AT;
+use record::active;
+use record::entry_size;
+use record::previous;
+use record::states;
 ghost use mathlib.Core.Path.{_≡_};
+ghost use mathlib.Core.Bool.{true};
 ghost use Rattle.fields.specs.Guid.{same};
 ghost use Rattle.fields.specs.Number.{le};
-ghost use Rattle.record.specs.Rules.{crcOf};
-ghost use Rattle.alterations.specs.Altered.{alteredBy, recordWith, Alterable, Word};
+ghost use Rattle.record.specs.Layout.{headerSize, versionAt};
+ghost use Rattle.record.specs.Rules.{crcOf, sound};
+ghost use Rattle.alterations.specs.Altered.{alteredBy, recordWith, Unaltered, Alterable, Word};
 
-// What a call alters: the words of active, previous and the bank states, and the accepted word of `count` images from `first` on
-// in one bank.
+// What a call alters: the words of active, previous and the bank states, and the accepted word of `count` images from
+// `first` on in one bank.
 pub struct Alteration {
     pub active: u32,
     pub previous: u32,
@@ -22,14 +36,30 @@ pub struct Alteration {
     pub flag: u32,
 }
 
+// The alteration that alters nothing of a sound record.
+pub fn unaltered(r: &[u8]) -> Alteration
+    requires { ⌜ sound (now r) ≡ true ⌝ }
+    ensures { λ x. ⌜ Unaltered x (now (r .entry)) ⌝ }
+{
+    Alteration {
+        active: active(r),
+        previous: previous(r),
+        states: states(r),
+        bank: 0,
+        first: 0,
+        count: 0,
+        flag: 0,
+    }
+}
+
 // The new record's word at o, among the entries: the flag where it is the accepted word of an image that x names.
 fn entry_word(r: &[u8], banks: usize, x: Alteration, o: usize) -> u32
-    requires { ⌜ Alterable x (now r) banks × Word (now r) 40 o ⌝ }
+    requires { ⌜ Alterable x (now r) banks × Word (now r) headerSize o ⌝ }
     ensures { λ w. ⌜ w ≡ le 4 (alteredBy x (now (r .entry))) o ⌝ }
 {
-    let size = 32 + 24 * banks;
+    let size = entry_size(banks);
     let image = (o - HEADER) / size;
-    if (o - HEADER) % size != 48 + 24 * x.bank {
+    if (o - HEADER) % size != BANKS_FROM + BANK_ENTRY * x.bank + ACCEPTED_FROM {
         return read32(r, o);
     }
     if image < x.first {
@@ -43,16 +73,16 @@ fn entry_word(r: &[u8], banks: usize, x: Alteration, o: usize) -> u32
 
 // The new record's word at o, its CRC apart.
 pub fn new_word(r: &[u8], banks: usize, x: Alteration, o: usize) -> u32
-    requires { ⌜ Alterable x (now r) banks × Word (now r) 4 o ⌝ }
+    requires { ⌜ Alterable x (now r) banks × Word (now r) versionAt o ⌝ }
     ensures { λ w. ⌜ w ≡ le 4 (alteredBy x (now (r .entry))) o ⌝ }
 {
-    if o == 8 {
+    if o == ACTIVE_AT {
         return x.active;
     }
-    if o == 12 {
+    if o == PREVIOUS_AT {
         return x.previous;
     }
-    if o == 24 {
+    if o == STATES_AT {
         return x.states;
     }
     if o < HEADER {
@@ -67,7 +97,7 @@ pub fn new_crc(r: &[u8], banks: usize, x: Alteration) -> u32
     ensures { λ q. ⌜ q ≡ crcOf (alteredBy x (now (r .entry))) ⌝ }
 {
     let mut q: u32 = ALL_ONES;
-    let mut o = 4;
+    let mut o = VERSION_AT;
     while o < r.len() {
         q = with_word(q, new_word(r, banks, x, o));
         o += 4;
@@ -75,15 +105,12 @@ pub fn new_crc(r: &[u8], banks: usize, x: Alteration) -> u32
     q ^ ALL_ONES
 }
 
-// Whether the new record is the old one. crc is the new one's.
-pub fn unchanged(r: &[u8], banks: usize, x: Alteration, crc: u32) -> bool
-    requires { ⌜ Alterable x (now r) banks × (crc ≡ crcOf (alteredBy x (now r))) ⌝ }
+// Whether the new record is the old one, which is sound: then no word differs behind the CRC.
+pub fn unchanged(r: &[u8], banks: usize, x: Alteration) -> bool
+    requires { ⌜ Alterable x (now r) banks × (sound (now r) ≡ true) ⌝ }
     ensures { λ b. ⌜ b ≡ same (now (r .entry)) (recordWith x (now (r .entry))) ⌝ }
 {
-    if read32(r, 0) != crc {
-        return false;
-    }
-    let mut o = 4;
+    let mut o = VERSION_AT;
     while o < r.len() {
         if read32(r, o) != new_word(r, banks, x, o) {
             return false;

@@ -4,7 +4,6 @@ use c_area::meanderpeg_soundness;
 use machine::answers::answer;
 use machine::bytes::digest;
 use machine::bytes::digest_bytes;
-use machine::bytes::load;
 use machine::bytes::store;
 use machine::pop;
 use machine::push;
@@ -14,23 +13,6 @@ const COPY_1: usize = 8192;
 
 fn number(out: &[u32], i: usize) -> u32 {
     if i < out.len() { out[i] } else { 0 }
-}
-
-// Does the first so many stores of a list.
-pub fn apply(m: &mut [u8], out: &[u32], pairs: usize) {
-    if out.len() / 2 < pairs {
-        return;
-    }
-    let mut i = 0;
-    while i < pairs {
-        store(
-            m,
-            number(out, 2 * i) as usize,
-            4,
-            number(out, 2 * i + 1) as u64,
-        );
-        i += 1;
-    }
 }
 
 // 1 where a store's offset is no multiple of 4 or lies in neither record range.
@@ -47,16 +29,26 @@ fn astray(at: usize, size: usize) -> u64 {
     if at - COPY_1 < size { 0 } else { 1 }
 }
 
-// How many of the first so many offsets of a list are astray.
-pub fn strays(out: &[u32], pairs: usize, size: usize) -> u64 {
+// Does the store at the place i of a list where it fits, and answers whether its offset is astray.
+fn done(m: &mut [u8], out: &[u32], i: usize, size: usize) -> u64 {
+    if out.len() / 2 <= i {
+        return 1;
+    }
+    let at = number(out, 2 * i) as usize;
+    store(m, at, 4, number(out, 2 * i + 1) as u64);
+    astray(at, size)
+}
+
+// Does the first so many stores of a list, and answers how many of their offsets are astray; 1 where the list has
+// fewer.
+pub fn apply(m: &mut [u8], out: &[u32], pairs: usize, size: usize) -> u64 {
+    let mut count: u64 = 0;
     if out.len() / 2 < pairs {
         return 1;
     }
-    let mut count: u64 = 0;
     let mut i = 0;
     while i < pairs {
-        let at = number(out, 2 * i) as usize;
-        count = std::num::wrapping_add_u64(count, astray(at, size));
+        count = std::num::wrapping_add_u64(count, done(m, out, i, size));
         i += 1;
     }
     count
@@ -75,13 +67,14 @@ pub fn soundness(w: &mut [u64; 256], m: &mut [u8]) {
     answer(m, &a);
 }
 
-// The digest with the sheet in the first k bytes of the text, and with all of it; where it has fewer, the digest as it was.
+// The digest with the sheet in the first k bytes of the text, and with all of it; where it has fewer, the digest as it
+// was.
 fn with_sheet(area: &[u8], text: &mut [u8], k: usize, d: u64) -> u64 {
     if text.len() < k {
         return d;
     }
     let n = meanderpeg_sheet(area, &mut text[0..k]);
-    digest_bytes(text, 0, text.len(), digest(d, n as u64))
+    digest_bytes(text, digest(d, n as u64))
 }
 
 pub fn sheet(w: &mut [u64; 256], m: &[u8]) {

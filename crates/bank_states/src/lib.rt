@@ -1,9 +1,15 @@
-// The rules on a record's bank states and on what is accepted in each bank (document 01, "The record": rules 12 and 13). The counts and
-// the length have been tested (`Sized`) before anything here reads an entry.
+// The rules on a record's bank states and on what is accepted in each bank (document 01, "The record": rules 12 and
+// 13). The counts and the length have been tested (`Sized`) before anything here reads an entry.
+use record::ACCEPTED;
+use record::BANK_LIMIT;
+use record::INVALID;
+use record::VALID;
 use record::accepted_word;
+use record::state;
 ghost use mathlib.Core.Path.{_≡_};
 ghost use Prim.Native.Nat.{_<_};
 ghost use Rattle.fields.specs.Number.{le};
+ghost use Rattle.record.specs.Layout.{activeAt};
 ghost use Rattle.record.specs.Rules.{stateAllowed, statesRule, allAccepted, bankConsistent, banksRule};
 ghost use Rattle.record.specs.Sized.{Sized};
 
@@ -11,16 +17,16 @@ ghost use Rattle.record.specs.Sized.{Sized};
 fn state_allowed(banks: usize, b: usize, s: u8) -> bool
     ensures { λ x. ⌜ x ≡ stateAllowed banks b s ⌝ }
 {
-    if s == 255 {
+    if s == INVALID {
         return true;
     }
     if banks <= b {
         return false;
     }
-    if s == 254 {
+    if s == VALID {
         return true;
     }
-    s == 252
+    s == ACCEPTED
 }
 
 // Rule 12.
@@ -29,8 +35,8 @@ pub fn states_rule(r: &[u8], banks: usize, images: usize) -> bool
     ensures { λ x. ⌜ x ≡ statesRule (now (r .entry)) ⌝ }
 {
     let mut b = 0;
-    while b < 4 {
-        if !state_allowed(banks, b, r[24 + b]) {
+    while b < BANK_LIMIT {
+        if !state_allowed(banks, b, state(r, b)) {
             return false;
         }
         b += 1;
@@ -58,11 +64,11 @@ fn bank_consistent(r: &[u8], banks: usize, images: usize, b: usize) -> bool
     requires { ⌜ Sized (now r) banks images × (b < banks) ⌝ }
     ensures { λ x. ⌜ x ≡ bankConsistent (now (r .entry)) b ⌝ }
 {
-    let s = r[24 + b];
-    if s == 252 {
+    let s = state(r, b);
+    if s == ACCEPTED {
         return all_accepted(r, banks, images, b);
     }
-    if s == 254 {
+    if s == VALID {
         return !all_accepted(r, banks, images, b);
     }
     true
@@ -70,7 +76,7 @@ fn bank_consistent(r: &[u8], banks: usize, images: usize, b: usize) -> bool
 
 // Rule 13, where the active bank exists.
 pub fn banks_rule(r: &[u8], banks: usize, images: usize, active: usize) -> bool
-    requires { ⌜ Sized (now r) banks images × (active < banks) × (active ≡ le 4 (now r) 8) ⌝ }
+    requires { ⌜ Sized (now r) banks images × (active < banks) × (active ≡ le 4 (now r) activeAt) ⌝ }
     ensures { λ x. ⌜ x ≡ banksRule (now (r .entry)) ⌝ }
 {
     let mut b = 0;
@@ -80,5 +86,5 @@ pub fn banks_rule(r: &[u8], banks: usize, images: usize, active: usize) -> bool
         }
         b += 1;
     }
-    r[24 + active] != 255
+    state(r, active) != INVALID
 }

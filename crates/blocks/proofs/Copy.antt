@@ -1,6 +1,6 @@
 -- The copy of the blocks to the place, one behind the other. Assumes nothing.
 use mathlib.Core.Path.{_≡_, refl, sym, ap, _∙_}
-use mathlib.Core.Bool.{Bool, true}
+use mathlib.Core.Bool.{true}
 use mathlib.Core.Logic.{_⊎_, inl, inr, ⊎-elim}
 use mathlib.Core.List.{List, [], _∷_, _++_, append-nil, append-assoc}
 use Prim.Native.Nat.{ℕ, zero, suc, _+_, _-_, _<_, _≤_}
@@ -16,7 +16,7 @@ use Rattle.fields.proofs.Put.{put-length, put-outside, put-more}
 use Rattle.descriptors.specs.Reading.{lengthOf, addressOf}
 use Rattle.descriptors.specs.Scratch.{Readable, AllReadable, lengths}
 use Rattle.descriptors.proofs.Steps.{length-at, address-at}
-use Rattle.place.specs.Place.{clearOf, clearOfAll, free}
+use Rattle.place.specs.Place.{clearOf, free}
 use Rattle.place.proofs.Ranges.{clear-each, clear-descriptor, clear-block}
 use Rattle.place.proofs.Search.{free-parts}
 use Rattle.blocks.specs.Blocks.{block, blocks}

@@ -1,5 +1,6 @@
--- The blocks of a scattered list (document 01, "The window and the scattered list", and demand 2). w is the window's bytes, B the address of the
--- first, d the address of a descriptor, ds the addresses of the descriptors read. Assumes nothing.
+-- The blocks of a scattered list (document 01, "The window and the scattered list", and demand 2). w is the window's
+-- bytes, B the address of the first, d the address of a descriptor, ds the addresses of the descriptors read. Assumes
+-- nothing.
 use Prim.Native.Nat.{ℕ, _-_}
 use mathlib.Core.List.{List, [], _∷_, _++_}
 use lib.ListN.{take, drop}

@@ -1,4 +1,5 @@
-// The copy of a scattered list's blocks, in list order, to the place that gathering found (document 01, "The window and the scattered list").
+// The copy of a scattered list's blocks, in list order, to the place that gathering found (document 01, "The window and
+// the scattered list").
 use descriptors::DESCRIPTOR_LIMIT;
 use fields::read64;
 ghost use mathlib.Core.Path.{_≡_};

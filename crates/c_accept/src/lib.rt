@@ -1,11 +1,11 @@
-// The way in from C and Rust (include/meanderpeg.h): the calls Accept and Select previous. Each passes and answers as those of
-// crate `c_begin` do, an array of 16 bytes as a pointer.
+// The way in from C and Rust (include/meanderpeg.h): the calls Accept and Select previous. Each passes and answers as
+// those of crate `c_begin` do, an array of 16 bytes as a pointer.
+// Parted from its neighbours for the prover: each must-fail edit proves its whole crate again.
 use c_answer::give;
 use c_session::session_of;
 ghost use mathlib.Core.Path.{_≡_};
-ghost use Rattle.session.specs.Calls.{acceptCall, selectPreviousCall};
-ghost use Rattle.c_session.specs.Numbers.{sessionOf};
-ghost use Rattle.c_answer.specs.Answers.{exportedCall};
+ghost use Rattle.changes.specs.Changed.{accept, selectPrevious};
+ghost use Rattle.c_answer.specs.Answers.{exported};
 
 // By type GUID.
 #[no_mangle]
@@ -18,7 +18,9 @@ pub extern "C" fn meanderpeg_accept(
     out: &mut [u32],
     pairs: &mut usize,
 ) -> u32
-    ensures { λ r. ⌜ ((r, (now (kind .exit), now (bank .exit), now (set .exit), now (pairs .exit))), now (out .exit)) ≡ exportedCall (acceptCall (sessionOf (now (kind .entry)) (now (bank .entry)) (now (set .entry))) (now (guid .entry)) (now (area .entry)) (now (out .entry))) (now (kind .entry), now (bank .entry), now (set .entry), now (pairs .entry)) ⌝ }
+    ensures { λ r. ⌜ ((r, (now (kind .exit), now (bank .exit), now (set .exit), now (pairs .exit))), now (out .exit))
+        ≡ exported (accept (now (guid .entry))) (now (kind .entry), now (bank .entry), now (set .entry), now (pairs .entry))
+        (now (area .entry)) (now (out .entry)) ⌝ }
 {
     let session = session_of(*kind, *bank, *set);
     let answer = session.accept(area, *guid, out);
@@ -35,7 +37,9 @@ pub extern "C" fn meanderpeg_select_previous(
     out: &mut [u32],
     pairs: &mut usize,
 ) -> u32
-    ensures { λ r. ⌜ ((r, (now (kind .exit), now (bank .exit), now (set .exit), now (pairs .exit))), now (out .exit)) ≡ exportedCall (selectPreviousCall (sessionOf (now (kind .entry)) (now (bank .entry)) (now (set .entry))) (now (area .entry)) (now (out .entry))) (now (kind .entry), now (bank .entry), now (set .entry), now (pairs .entry)) ⌝ }
+    ensures { λ r. ⌜ ((r, (now (kind .exit), now (bank .exit), now (set .exit), now (pairs .exit))), now (out .exit))
+        ≡ exported selectPrevious (now (kind .entry), now (bank .entry), now (set .entry), now (pairs .entry))
+        (now (area .entry)) (now (out .entry)) ⌝ }
 {
     let session = session_of(*kind, *bank, *set);
     let answer = session.select_previous(area, out);

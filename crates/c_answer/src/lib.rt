@@ -1,15 +1,18 @@
-// An answer as the exported functions have it: in a number and in numbers behind references, which a refusal leaves as they were.
+// An answer as the exported functions have it: in a number and in numbers behind references, which a refusal leaves as
+// they were.
 use refusals::Refusal;
 use session::Answer;
 use session::Session;
-use session::Verdict;
+use verdicts::Verdict;
 ghost use mathlib.Core.Path.{_≡_};
 ghost use Rattle.refusals.specs.Number.{numberOf, valuesOf};
+ghost use Rattle.verdicts.specs.Decide.{decisionOf};
 ghost use Rattle.session.specs.Outcome.{outcomeOf};
-ghost use Rattle.c_answer.specs.Answers.{kindOf, bankOf, setOf, missingOr, exportedKind, exportedPairs, exportedAnswer, exportedMissing};
+ghost use Rattle.session.specs.Sessions.{kindOf, bankOf, setOf};
+ghost use Rattle.c_answer.specs.Answers.{missingOr, missingAfter, exportedAnswer};
 
-// The number of a session's kind.
-fn kind_of(session: Session) -> u32
+// The number of a session's kind; for start-up too, which never answers Staging.
+pub fn kind_of(session: Session) -> u32
     ensures { λ r. ⌜ r ≡ kindOf session ⌝ }
 {
     match session {
@@ -47,38 +50,10 @@ fn set_of(session: Session) -> u32
     }
 }
 
-// Gives the kind of the next session; for start-up, which has no list and never answers Staging.
-pub fn give_kind(answer: Answer, kind: &mut u32) -> u32
-    ensures { λ r. ⌜ (r, now (kind .exit)) ≡ exportedKind (outcomeOf answer) (now (kind .entry)) ⌝ }
-{
-    let verdict = answer.verdict;
-    match verdict {
-        Verdict::Refused(why) => why.number(),
-        Verdict::Accepted => {
-            let next = answer.session;
-            *kind = kind_of(next);
-            0
-        }
-    }
-}
-
-// Gives the count of pairs; for repair, which has no session.
-pub fn give_pairs(answer: Answer, pairs: &mut usize) -> u32
-    ensures { λ r. ⌜ (r, now (pairs .exit)) ≡ exportedPairs (outcomeOf answer) (now (pairs .entry)) ⌝ }
-{
-    let verdict = answer.verdict;
-    match verdict {
-        Verdict::Refused(why) => why.number(),
-        Verdict::Accepted => {
-            *pairs = answer.stores;
-            0
-        }
-    }
-}
-
 // Gives the next session and the count of pairs.
 pub fn give(answer: Answer, kind: &mut u32, bank: &mut u32, set: &mut u32, pairs: &mut usize) -> u32
-    ensures { λ r. ⌜ (r, (now (kind .exit), now (bank .exit), now (set .exit), now (pairs .exit))) ≡ exportedAnswer (outcomeOf answer) (now (kind .entry), now (bank .entry), now (set .entry), now (pairs .entry)) ⌝ }
+    ensures { λ r. ⌜ (r, (now (kind .exit), now (bank .exit), now (set .exit), now (pairs .exit)))
+        ≡ exportedAnswer (outcomeOf answer) (now (kind .entry), now (bank .entry), now (set .entry), now (pairs .entry)) ⌝ }
 {
     let verdict = answer.verdict;
     match verdict {
@@ -106,7 +81,7 @@ fn missing_or(told: u32, why: Refusal) -> u32
 
 // Gives the count of missing images where the answer is 27; for End.
 pub fn give_missing(answer: Answer, missing: &mut u32)
-    ensures { λ _. ⌜ now (missing .exit) ≡ exportedMissing (outcomeOf answer) (now (missing .entry)) ⌝ }
+    ensures { λ _. ⌜ now (missing .exit) ≡ missingAfter (now (missing .entry)) (decisionOf (answer .verdict)) ⌝ }
 {
     let verdict = answer.verdict;
     match verdict {

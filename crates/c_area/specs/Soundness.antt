@@ -1,19 +1,18 @@
 -- The soundness of an area in a number (document 01, "The record"). a is the bytes of the area. Assumes nothing.
 use Prim.Native.Nat.{ℕ, _+_}
 use mathlib.Core.Bool.{cond}
-use mathlib.Core.List.{List}
-use lib.Dec.{eqb}
-use lib.ListN.{length}
-use Rattle.refusals.specs.Number.{numberOf}
-use Rattle.refusals.specs.declared.Refusal.the-variants.{AreaLength}
-use Rattle.record.specs.Layout.{areaSize, copy0, copy1}
+use mathlib.Core.List.{List, [], _∷_}
+use Rattle.verdicts.specs.Decide.{decide, reply}
+use Rattle.record.specs.Layout.{copy0, copy1}
 use Rattle.record.specs.Rules.{soundCopy}
 use Rattle.copies.specs.Copies.{soundAndEqual}
+use Rattle.admission.specs.Rows.{lengthTest}
+use Rattle.c_answer.specs.Answers.{exportedReply}
 
 -- bit 0: copy 0 is sound; bit 1: copy 1 is; bit 2: "the copies are sound and equal"
 unfoldable pub soundCopies : List ℕ → ℕ
 soundCopies a = cond (soundCopy (copy0 a)) 1 0 + (cond (soundCopy (copy1 a)) 2 0 + cond (soundAndEqual a) 4 0)
 
--- the number answered, and the bits behind the reference; 20, "area not 16,384 bytes", leaves what stood there
+-- the number answered, and the bits behind the reference; 20
 unfoldable pub exportedSoundness : List ℕ → (found : ℕ) → ℕ × ℕ
-exportedSoundness a found = cond (eqb (length a) areaSize) (0, soundCopies a) (numberOf AreaLength, found)
+exportedSoundness a found = exportedReply (λ n. n) (reply (decide (lengthTest a ∷ [])) (soundCopies a)) found

@@ -1,5 +1,5 @@
-// The way in from C and Rust (include/meanderpeg.h): what an area holds. A slice passes as a pointer and a length, a number behind a
-// reference as a pointer. A refusal leaves what was lent as it was.
+// The way in from C and Rust (include/meanderpeg.h): what an area holds. A slice passes as a pointer and a length, a
+// number behind a reference as a pointer. A refusal leaves what was lent as it was.
 use record::AREA;
 use record::COPY;
 ghost use mathlib.Core.Path.{_≡_};

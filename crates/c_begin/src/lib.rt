@@ -1,13 +1,13 @@
-// The way in from C and Rust (include/meanderpeg.h): the calls Begin and Cancel. A slice passes as a pointer and a length, a number
-// behind a reference as a pointer. Each call takes the session as three numbers, lists the stores of the change, and sets the
-// next session's three numbers and the count of pairs. An answer of 0 is accepted, else it is the refusal's number, and then
-// what was lent is as it was.
+// The way in from C and Rust (include/meanderpeg.h): the calls Begin and Cancel. A slice passes as a pointer and a
+// length, a number behind a reference as a pointer. Each call takes the session as three numbers, lists the stores of
+// the change, and sets the next session's three numbers and the count of pairs. An answer of 0 is accepted, else it
+// is the refusal's number, and then what was lent is as it was.
+// Parted from its neighbours for the prover: each must-fail edit proves its whole crate again.
 use c_answer::give;
 use c_session::session_of;
 ghost use mathlib.Core.Path.{_≡_};
-ghost use Rattle.session.specs.Calls.{beginCall, cancelCall};
-ghost use Rattle.c_session.specs.Numbers.{sessionOf};
-ghost use Rattle.c_answer.specs.Answers.{exportedCall};
+ghost use Rattle.changes.specs.Changed.{begin, cancel};
+ghost use Rattle.c_answer.specs.Answers.{exported};
 
 // Opens a Staging session.
 #[no_mangle]
@@ -19,7 +19,9 @@ pub extern "C" fn meanderpeg_begin(
     out: &mut [u32],
     pairs: &mut usize,
 ) -> u32
-    ensures { λ r. ⌜ ((r, (now (kind .exit), now (bank .exit), now (set .exit), now (pairs .exit))), now (out .exit)) ≡ exportedCall (beginCall (sessionOf (now (kind .entry)) (now (bank .entry)) (now (set .entry))) (now (area .entry)) (now (out .entry))) (now (kind .entry), now (bank .entry), now (set .entry), now (pairs .entry)) ⌝ }
+    ensures { λ r. ⌜ ((r, (now (kind .exit), now (bank .exit), now (set .exit), now (pairs .exit))), now (out .exit))
+        ≡ exported begin (now (kind .entry), now (bank .entry), now (set .entry), now (pairs .entry))
+        (now (area .entry)) (now (out .entry)) ⌝ }
 {
     let session = session_of(*kind, *bank, *set);
     let answer = session.begin(area, out);
@@ -36,7 +38,9 @@ pub extern "C" fn meanderpeg_cancel(
     out: &mut [u32],
     pairs: &mut usize,
 ) -> u32
-    ensures { λ r. ⌜ ((r, (now (kind .exit), now (bank .exit), now (set .exit), now (pairs .exit))), now (out .exit)) ≡ exportedCall (cancelCall (sessionOf (now (kind .entry)) (now (bank .entry)) (now (set .entry))) (now (area .entry)) (now (out .entry))) (now (kind .entry), now (bank .entry), now (set .entry), now (pairs .entry)) ⌝ }
+    ensures { λ r. ⌜ ((r, (now (kind .exit), now (bank .exit), now (set .exit), now (pairs .exit))), now (out .exit))
+        ≡ exported cancel (now (kind .entry), now (bank .entry), now (set .entry), now (pairs .entry))
+        (now (area .entry)) (now (out .entry)) ⌝ }
 {
     let session = session_of(*kind, *bank, *set);
     let answer = session.cancel(area, out);

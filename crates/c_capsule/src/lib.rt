@@ -1,4 +1,5 @@
-// The way in from C and Rust (include/meanderpeg.h): a capsule's refusal and its items. A slice passes as a pointer and a length.
+// The way in from C and Rust (include/meanderpeg.h): a capsule's refusal and its items. A slice passes as a pointer and
+// a length.
 ghost use mathlib.Core.Path.{_≡_};
 ghost use Rattle.capsule_check.specs.Verdict.{refusalNumber};
 ghost use Rattle.capsule_check.specs.Item.{located};
@@ -25,10 +26,5 @@ pub extern "C" fn meanderpeg_capsule_item_length(s: &[u8], k: usize) -> usize
 pub extern "C" fn meanderpeg_capsule_item_start(s: &[u8], k: usize) -> usize
     ensures { λ r. ⌜ r ≡ itemPart (located (now (s .entry)) k) .start ⌝ }
 {
-    let found = capsule_check::locate(s, k);
-    match found {
-        capsule_check::Item::Driver { start, end: _ } => start,
-        capsule_check::Item::Payload { start, end: _ } => start,
-        capsule_check::Item::Refused(_) => 0,
-    }
+    capsule::item_span(s, k).start
 }

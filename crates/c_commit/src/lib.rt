@@ -1,12 +1,13 @@
-// The way in from C and Rust (include/meanderpeg.h): the calls Commit and End. Each passes and answers as those of crate `c_begin`
-// do, an array of 16 bytes as a pointer.
+// The way in from C and Rust (include/meanderpeg.h): the calls Commit and End. Each passes and answers as those of
+// crate `c_begin` do, an array of 16 bytes as a pointer.
+// Parted from its neighbours for the prover: each must-fail edit proves its whole crate again.
 use c_answer::give;
 use c_answer::give_missing;
 use c_session::session_of;
 ghost use mathlib.Core.Path.{_≡_};
-ghost use Rattle.session.specs.Calls.{commitCall, endCall};
-ghost use Rattle.c_session.specs.Numbers.{sessionOf};
-ghost use Rattle.c_answer.specs.Answers.{exportedCall, exportedEnd};
+ghost use Rattle.changes.specs.Changed.{commit, end};
+ghost use Rattle.c_session.specs.Numbers.{sessionNamed};
+ghost use Rattle.c_answer.specs.Answers.{exported, exportedMissing};
 
 // By type GUID and a request.
 #[no_mangle]
@@ -20,7 +21,9 @@ pub extern "C" fn meanderpeg_commit(
     out: &mut [u32],
     pairs: &mut usize,
 ) -> u32
-    ensures { λ r. ⌜ ((r, (now (kind .exit), now (bank .exit), now (set .exit), now (pairs .exit))), now (out .exit)) ≡ exportedCall (commitCall (sessionOf (now (kind .entry)) (now (bank .entry)) (now (set .entry))) (now (guid .entry)) request (now (area .entry)) (now (out .entry))) (now (kind .entry), now (bank .entry), now (set .entry), now (pairs .entry)) ⌝ }
+    ensures { λ r. ⌜ ((r, (now (kind .exit), now (bank .exit), now (set .exit), now (pairs .exit))), now (out .exit))
+        ≡ exported (commit (now (guid .entry)) request) (now (kind .entry), now (bank .entry), now (set .entry), now (pairs .entry))
+        (now (area .entry)) (now (out .entry)) ⌝ }
 {
     let session = session_of(*kind, *bank, *set);
     let answer = session.commit(area, *guid, request, out);
@@ -38,7 +41,12 @@ pub extern "C" fn meanderpeg_end(
     pairs: &mut usize,
     missing: &mut u32,
 ) -> u32
-    ensures { λ r. ⌜ ((r, (now (kind .exit), now (bank .exit), now (set .exit), now (pairs .exit))), now (missing .exit), now (out .exit)) ≡ exportedEnd (endCall (sessionOf (now (kind .entry)) (now (bank .entry)) (now (set .entry))) (now (area .entry)) (now (out .entry))) (now (kind .entry), now (bank .entry), now (set .entry), now (pairs .entry)) (now (missing .entry)) ⌝ }
+    ensures { λ r. ⌜ ((r, (now (kind .exit), now (bank .exit), now (set .exit), now (pairs .exit))), now (out .exit))
+        ≡ exported end (now (kind .entry), now (bank .entry), now (set .entry), now (pairs .entry))
+        (now (area .entry)) (now (out .entry)) ⌝ }
+    ensures { λ _. ⌜ now (missing .exit)
+        ≡ exportedMissing (sessionNamed (now (kind .entry)) (now (bank .entry)) (now (set .entry)))
+        (now (area .entry)) (now (out .entry)) (now (missing .entry)) ⌝ }
 {
     let session = session_of(*kind, *bank, *set);
     let answer = session.end(area, out);

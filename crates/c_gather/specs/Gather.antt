@@ -1,4 +1,5 @@
--- Gathering's outcome as the exported function gives it: a number, the window, and two numbers behind references. Assumes nothing.
+-- Gathering's outcome as the exported function gives it: a number, the window, and two numbers behind references.
+-- Assumes nothing.
 use Prim.Native.Nat.{ℕ}
 use mathlib.Core.List.{List}
 use mathlib.Core.Path.{_≡_}

@@ -1,5 +1,6 @@
-// The way in from C and Rust (include/meanderpeg.h): the images of a capsule's items. A slice passes as a pointer and a length.
-use capsule_parts::image_start;
+// The way in from C and Rust (include/meanderpeg.h): the images of a capsule's items. A slice passes as a pointer and a
+// length.
+// Parted from its neighbours for the prover: each must-fail edit proves its whole crate again.
 ghost use mathlib.Core.Path.{_≡_};
 ghost use Rattle.capsule_check.specs.Item.{located};
 ghost use Rattle.capsule.specs.Parts.{lengthIn};
@@ -18,10 +19,5 @@ pub extern "C" fn meanderpeg_capsule_image_length(s: &[u8], k: usize) -> usize
 pub extern "C" fn meanderpeg_capsule_image_start(s: &[u8], k: usize) -> usize
     ensures { λ r. ⌜ r ≡ imagePart (now (s .entry)) (located (now (s .entry)) k) .start ⌝ }
 {
-    let found = capsule_check::locate(s, k);
-    match found {
-        capsule_check::Item::Driver { start, end: _ } => start,
-        capsule_check::Item::Payload { start, end } => start + image_start(&s[start..end]),
-        capsule_check::Item::Refused(_) => 0,
-    }
+    capsule_parts::places_of(s, k).image
 }

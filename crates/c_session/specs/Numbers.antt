@@ -4,10 +4,12 @@ use mathlib.Core.Bool.{cond}
 use lib.Dec.{eqb}
 use Rattle.session.specs.declared.Session.{Session}
 use Rattle.session.specs.declared.Session.the-variants.{Regular, Staging, Trial, Fallback, Restart}
+use Rattle.session.specs.Sessions.{regular, staging, trial, fallback}
 
--- The session that three numbers name: its kind, "Regular, Staging, Trial, Fallback, Restart" numbered in that order from 0 (as
--- crates/c_answer/specs/Answers.antt numbers them), its bank and its set. A kind above 4 names none. It is taken as Restart, which no call names, so that it meets 25 in its turn and
--- the three numbers stay as they were
-unfoldable pub sessionOf : (kind bank set : ℕ) → Session
-sessionOf kind bank set =
-    cond (eqb kind 0) Regular (cond (eqb kind 1) (Staging bank set) (cond (eqb kind 2) Trial (cond (eqb kind 3) Fallback Restart)))
+-- The session that three numbers name: its kind, its bank and its set, as `kindOf`, `bankOf` and `setOf` of
+-- crates/session/specs/Sessions.antt number them. A kind above 4 names none. It is taken as Restart, which no call
+-- names, so that it meets 25 in its turn and the three numbers stay as they were
+unfoldable pub sessionNamed : (kind bank set : ℕ) → Session
+sessionNamed kind bank set =
+    cond (eqb kind regular) Regular
+    (cond (eqb kind staging) (Staging bank set) (cond (eqb kind trial) Trial (cond (eqb kind fallback) Fallback Restart)))

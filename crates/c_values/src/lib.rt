@@ -1,5 +1,5 @@
-// The way in from C and Rust (include/meanderpeg.h): a capsule's counts and the values shown of an item. A slice passes as a pointer
-// and a length, an array of 16 bytes behind a reference as a pointer.
+// The way in from C and Rust (include/meanderpeg.h): a capsule's counts and the values shown of an item. A slice passes
+// as a pointer and a length, an array of 16 bytes behind a reference as a pointer.
 ghost use mathlib.Core.Path.{_≡_};
 ghost use Rattle.capsule_check.specs.Item.{located};
 ghost use Rattle.capsule_counts.specs.Count.{driverCount, payloadCount};

@@ -1,4 +1,2 @@
--- Laws of stores that do not meet, and of the alteration of each call.
-pub mod Words
-pub mod Kept
+-- The alteration of each change makes its record.
 pub mod Making

@@ -1,38 +1,42 @@
-// What each call alters in the record (document 01, "Session and calls").
+// What each change alters in the record (document 01, "Session and calls").
 use alterations::Alteration;
+use alterations::unaltered;
 use bank_states::all_accepted;
-use changes::all_accepted_with;
+use changes::Change;
+use changes::all_accepted_after;
 use changes::states_with;
 use changes::update_bank;
-use fields::read16;
-use fields::read32;
+use record::ACCEPTED;
+use record::INVALID;
+use record::VALID;
+use record::active;
+use record::bank_count;
+use record::image_count;
+use record::states;
 ghost use mathlib.Core.Path.{_≡_};
 ghost use mathlib.Core.Bool.{true, cond};
 ghost use Prim.Native.Nat.{_<_};
 ghost use lib.Dec.{eqb};
 ghost use Rattle.fields.specs.Number.{le};
-ghost use Rattle.record.specs.Layout.{active, bankCount, imageCount};
+ghost use Rattle.record.specs.Layout.{stateAt, active, bankCount, imageCount};
 ghost use Rattle.record.specs.Rules.{acceptedBank, valid, allAccepted, sound};
-ghost use Rattle.alterations.specs.Fields.{setState, setAccepted};
-ghost use Rattle.changes.specs.NewRecord.{begunRecord, committedRecord, endedRecord, acceptedRecord, exchangedRecord};
-ghost use Rattle.call_alterations.specs.Makes.{Makes};
+ghost use Rattle.alterations.specs.Fields.{setState};
+ghost use Rattle.changes.specs.NewRecord.{begunRecord, committedRecord, endedRecord, marked, acceptedRecord, exchangedRecord};
+ghost use Rattle.changes.specs.Changed.{changedBy, Names};
+ghost use Rattle.call_alterations.specs.Makes.{Makes, withFull};
 
 // Begin: the update bank "becomes 255 with all images unaccepted".
-pub fn begin_alteration(r: &[u8]) -> Alteration
+fn begin_alteration(r: &[u8]) -> Alteration
     requires { ⌜ sound (now r) ≡ true ⌝ }
     ensures { λ x. ⌜ Makes x (now (r .entry)) (begunRecord (now (r .entry))) ⌝ }
 {
     let bank = update_bank(r);
-    let images = read16(r, 34) as usize;
-    Alteration {
-        active: read32(r, 8),
-        previous: read32(r, 12),
-        states: states_with(r, bank, 255),
-        bank,
-        first: 0,
-        count: images,
-        flag: 0,
-    }
+    let images = image_count(r);
+    let mut x = unaltered(r);
+    x.states = states_with(r, bank, INVALID);
+    x.bank = bank;
+    x.count = images;
+    x
 }
 
 // "0 marks it accepted, above 0 unaccepted"
@@ -46,20 +50,16 @@ fn flag_for(request: u32) -> u32
 }
 
 // Commit of image i, in the update bank.
-pub fn commit_alteration(r: &[u8], i: usize, request: u32) -> Alteration
+fn commit_alteration(r: &[u8], i: usize, request: u32) -> Alteration
     requires { ⌜ (sound (now r) ≡ true) × (i < imageCount (now r)) ⌝ }
     ensures { λ x. ⌜ Makes x (now (r .entry)) (committedRecord i request (now (r .entry))) ⌝ }
 {
-    let bank = update_bank(r);
-    Alteration {
-        active: read32(r, 8),
-        previous: read32(r, 12),
-        states: read32(r, 24),
-        bank,
-        first: i,
-        count: 1,
-        flag: flag_for(request),
-    }
+    let mut x = unaltered(r);
+    x.bank = update_bank(r);
+    x.first = i;
+    x.count = 1;
+    x.flag = flag_for(request);
+    x
 }
 
 // "The bank becomes 252 if all are accepted, else 254."
@@ -67,76 +67,86 @@ fn end_state(r: &[u8], b: usize) -> u8
     requires { ⌜ (sound (now r) ≡ true) × (b < bankCount (now r)) ⌝ }
     ensures { λ s. ⌜ s ≡ cond (allAccepted (now (r .entry)) b) acceptedBank valid ⌝ }
 {
-    let banks = r[32] as usize;
-    let images = read16(r, 34) as usize;
-    if all_accepted(r, banks, images, b) {
-        return 252;
+    if all_accepted(r, bank_count(r), image_count(r), b) {
+        return ACCEPTED;
     }
-    254
+    VALID
 }
 
 // End: "Previous takes active, active takes the update bank".
-pub fn end_alteration(r: &[u8]) -> Alteration
+fn end_alteration(r: &[u8]) -> Alteration
     requires { ⌜ sound (now r) ≡ true ⌝ }
     ensures { λ x. ⌜ Makes x (now (r .entry)) (endedRecord (now (r .entry))) ⌝ }
 {
     let bank = update_bank(r);
     let s = end_state(r, bank);
-    Alteration {
-        active: bank as u32,
-        previous: read32(r, 8),
-        states: states_with(r, bank, s),
-        bank,
-        first: 0,
-        count: 0,
-        flag: 0,
-    }
+    let mut x = unaltered(r);
+    x.previous = x.active;
+    x.active = bank as u32;
+    x.states = states_with(r, bank, s);
+    x
 }
 
 // "when all are, the bank is 252"
-fn accept_states(r: &[u8], b: usize, i: usize) -> u32
-    requires { ⌜ (sound (now r) ≡ true) × (b ≡ active (now r)) × (i < imageCount (now r)) ⌝ }
-    ensures { λ w. ⌜ w ≡ le 4 (cond (allAccepted (setAccepted i b 1 (now (r .entry))) b) (setState b acceptedBank (now (r .entry))) (now (r .entry))) 24 ⌝ }
+fn accept_states(r: &[u8], i: usize) -> u32
+    requires { ⌜ (sound (now r) ≡ true) × (i < imageCount (now r)) ⌝ }
+    ensures { λ w. ⌜ w ≡ le 4 (withFull i (now (r .entry))) (stateAt 0) ⌝ }
 {
-    let banks = r[32] as usize;
-    let images = read16(r, 34) as usize;
-    if all_accepted_with(r, banks, images, b, i) {
-        return states_with(r, b, 252);
+    if all_accepted_after(r, i) {
+        return states_with(r, active(r) as usize, ACCEPTED);
     }
-    read32(r, 24)
+    states(r)
 }
 
 // Accept: "the image becomes accepted in the active bank".
-pub fn accept_alteration(r: &[u8], i: usize) -> Alteration
+fn accept_alteration(r: &[u8], i: usize) -> Alteration
     requires { ⌜ (sound (now r) ≡ true) × (i < imageCount (now r)) ⌝ }
     ensures { λ x. ⌜ Makes x (now (r .entry)) (acceptedRecord i (now (r .entry))) ⌝ }
 {
-    let bank = read32(r, 8) as usize;
-    Alteration {
-        active: read32(r, 8),
-        previous: read32(r, 12),
-        states: accept_states(r, bank, i),
-        bank,
-        first: i,
-        count: 1,
-        flag: 1,
-    }
+    let mut x = unaltered(r);
+    x.states = accept_states(r, i);
+    x.bank = x.active as usize;
+    x.first = i;
+    x.count = 1;
+    x.flag = 1;
+    x
 }
 
 // Select previous: "Active and previous are exchanged."
-pub fn exchange_alteration(r: &[u8]) -> Alteration
+fn exchange_alteration(r: &[u8]) -> Alteration
     requires { ⌜ sound (now r) ≡ true ⌝ }
     ensures { λ x. ⌜ Makes x (now (r .entry)) (exchangedRecord (now (r .entry))) ⌝ }
 {
-    let active = read32(r, 8);
-    let previous = read32(r, 12);
-    Alteration {
-        active: previous,
-        previous: active,
-        states: read32(r, 24),
-        bank: 0,
-        first: 0,
-        count: 0,
-        flag: 0,
+    let mut x = unaltered(r);
+    let bank = x.active;
+    x.active = x.previous;
+    x.previous = bank;
+    x
+}
+
+// The words that a change alters.
+pub fn alteration_for(r: &[u8], change: Change) -> Alteration
+    requires { ⌜ (sound (now r) ≡ true) × Names change (now r) ⌝ }
+    ensures { λ x. ⌜ Makes x (now (r .entry)) (changedBy change (now (r .entry))) ⌝ }
+{
+    match change {
+        Change::Nothing => {
+            return unaltered(r);
+        }
+        Change::Begin => {
+            return begin_alteration(r);
+        }
+        Change::Commit { image, request } => {
+            return commit_alteration(r, image, request);
+        }
+        Change::End => {
+            return end_alteration(r);
+        }
+        Change::Accept { image } => {
+            return accept_alteration(r, image);
+        }
+        Change::Exchange => {
+            return exchange_alteration(r);
+        }
     }
 }

@@ -87,7 +87,8 @@ fn any_call(
     }
 }
 
-// The session before the call, as answers: repair has Restart. Start-up is given none: any number stands where its kind goes.
+// The session before the call, as answers: repair has Restart. Start-up is given none: any number stands where its kind
+// goes.
 fn session_before(m: &[u8], which: u64) -> [u64; 13] {
     let mut a = [0u64; 13];
     if which < 2 {

@@ -1,17 +1,17 @@
 -- Laws of the body: tests of each number below a count, the list of offsets, and the items. Assumes nothing.
-use mathlib.Core.Path.{_≡_, refl, sym, ap, subst, _∙_}
-use mathlib.Core.Bool.{Bool, true, false, cond, _&&_, and-false}
+use mathlib.Core.Path.{_≡_, refl, sym, ap, _∙_}
+use mathlib.Core.Bool.{Bool, true, false, _&&_, and-false}
 use mathlib.Core.List.{List}
-use mathlib.Core.Logic.{_⊎_, inl, inr, ⊎-elim}
+use mathlib.Core.Logic.{_⊎_, ⊎-elim}
 use Prim.Native.Nat.{ℕ, zero, suc, _+_, _-_, _*_, _<_, _≤_}
 use native.Mathlib.Numerals.{add-one}
 use native.Mathlib.Omega.{arith}
-use borrow.Author.Tests.{leb-true, ltb-true, ltb-false, lt-leb, le-ltb, lt-ltb}
+use borrow.Author.Tests.{leb-true, ltb-true, lt-leb, le-ltb}
 use lib.Dec.{leb, ltb, eqb}
-use lib.ListN.{length, take, drop}
+use lib.ListN.{length}
 use Rattle.fields.specs.Number.{le}
-use Rattle.fields.proofs.Tests.{both, no-true, le-or-lt}
-use Rattle.capsule_body.specs.Body.{all, bodyVersion, drivers, payloads, items, offset, listEnd, rises, offsetRight, bodyRight, itemEnd}
+use Rattle.fields.proofs.Tests.{both, le-or-lt}
+use Rattle.capsule_body.specs.Body.{all, bodyVersion, items, offset, listEnd, rises, offsetRight, bodyRight, itemEnd}
 
 -- ---- each number below a count
 pub all-none : (p : ℕ → Bool) → all p 0 ≡ true

@@ -1,7 +1,7 @@
 -- The capsule's body (document 01, "The capsule", second paragraph), b being its bytes: the counts, the list of offsets
--- and the items. Counts, offsets and sums are whole numbers. Each number reads bytes past the end of b as 0; a body below 8
--- bytes is at fault whatever it reads, and so is one in which the list does not fit: no offset can lie at or after the list's
--- end and below the body's length. Assumes nothing.
+-- and the items. Counts, offsets and sums are whole numbers. Each number reads bytes past the end of b as 0; a body
+-- below 8 bytes is at fault whatever it reads, and so is one in which the list does not fit: no offset can lie at or
+-- after the list's end and below the body's length. Assumes nothing.
 use Prim.Native.Nat.{ℕ, zero, suc, _+_, _-_, _*_}
 use mathlib.Core.Bool.{Bool, true, cond, _&&_}
 use mathlib.Core.List.{List}

@@ -1,5 +1,5 @@
-// The rules on a capsule's body with the list of offsets (document 01, "The capsule"; UEFI 2.10, 23.3), and where its items lie. Each rule is a
-// function that answers what its definition says.
+// The rules on a capsule's body with the list of offsets (document 01, "The capsule"; UEFI 2.10, 23.3), and where its
+// items lie. Each rule is a function that answers what its definition says.
 ghost use mathlib.Core.Path.{_≡_};
 ghost use mathlib.Core.Bool.{true};
 ghost use Prim.Native.Nat.{_+_, _*_, _<_, _≤_};

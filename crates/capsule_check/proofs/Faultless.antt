@@ -13,7 +13,7 @@ use Rattle.capsule_body.specs.Body.{bodyRight}
 use Rattle.capsule_payloads.specs.Payload.{payloadsRight}
 use Rattle.capsule_check.specs.Verdict.{unless, verdict}
 use Rattle.capsule_check.specs.declared.Verdict.{Verdict}
-use Rattle.capsule_check.specs.declared.Verdict.the-variants.{Faultless, Refused}
+use Rattle.capsule_check.specs.declared.Verdict.the-variants.{Faultless}
 
 -- a test that did not refuse
 passed : (t : Bool) (r : Refusal) (v : Verdict) → unless t r v ≡ Faultless → (t ≡ true) × (v ≡ Faultless)

@@ -1,12 +1,12 @@
 -- The definition of an item's place, at each way out, and what it says of the capsule. Assumes nothing.
-use mathlib.Core.Path.{_≡_, refl, sym, ap, _∙_}
+use mathlib.Core.Path.{_≡_, refl}
 use mathlib.Core.Bool.{Bool, true, false}
 use mathlib.Core.List.{List}
 use Prim.Native.Nat.{ℕ, _+_, _-_, _<_, _≤_}
 use native.Mathlib.Omega.{arith}
 use borrow.Author.Tests.{ltb-true, ltb-false, lt-ltb, le-ltb}
 use lib.Dec.{ltb}
-use lib.ListN.{length, take, drop}
+use lib.ListN.{length, drop}
 use lib.Seq.{drop-drop}
 use Rattle.refusals.specs.declared.Refusal.{Refusal}
 use Rattle.refusals.specs.declared.Refusal.the-variants.{NoItem}
@@ -15,7 +15,7 @@ use Rattle.capsule_payloads.specs.Payload.{payloadRight}
 use Rattle.capsule_body.specs.Body.{part, drivers, payloads, items, offset, itemEnd}
 use Rattle.capsule_payloads.specs.Payload.{payloadAtRight, payloadsRight}
 use Rattle.capsule_body.specs.Body.{item as itemBytes}
-use Rattle.capsule_header.proofs.Header.{header-in, body-length}
+use Rattle.capsule_header.proofs.Header.{body-length}
 use Rattle.capsule_body.proofs.Body.{all-at, item-in}
 use Rattle.capsule_check.specs.Verdict.{unless, after, verdict, itemVerdict}
 use Rattle.capsule_check.specs.Item.{itemStartIn, itemEndIn, itemOf, found, located}
@@ -81,7 +81,7 @@ told-judged s k = go (itemVerdict s k) (ltb k (drivers (body s)))
     go (Verdict.Refused r) d = refl
 
 -- what holds of an item that was found: it lies in the capsule, and a payload is right
-pub Holds : List ℕ → Item → Type 0
+unfoldable pub Holds : List ℕ → Item → Type 0
 Holds s (Driver a e) = Inside s a e
 Holds s (Payload a e) = Inside s a e × (payloadRight (part s a e) ≡ true)
 Holds s (Refused r) = Unit
@@ -111,20 +111,3 @@ holds s k = go (verdict s) refl
         → Holds s (found (after v (unless (ltb k (items (body s))) NoItem Faultless)) (itemOf (ltb k (drivers (body s))) (itemStartIn s k) (itemEndIn s k)))
     go Faultless e = numbers (faultless s e) (ltb k (items (body s))) refl
     go (Verdict.Refused r) e = tt
-
-module _ (s : List ℕ) (k a e : ℕ) where
-  pub driver-inside : located s k ≡ Driver a e → (a ≤ e) × (e ≤ length s)
-  unfolding Holds
-  driver-inside q =
-      let i : Inside s a e = rw q at (holds s k) in
-      (omega arith, i .within)
-
-  pub payload-inside : located s k ≡ Payload a e → (a ≤ e) × (e ≤ length s)
-  unfolding Holds
-  payload-inside q =
-      let i : Inside s a e = (rw q at (holds s k)) .0 in
-      (omega arith, i .within)
-
-  pub payload-holds : located s k ≡ Payload a e → payloadRight (part s a e) ≡ true
-  unfolding Holds
-  payload-holds q = (rw q at (holds s k)) .1

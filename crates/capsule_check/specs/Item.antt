@@ -1,5 +1,5 @@
--- Where item k of a capsule s lies, and of which kind it is, or the refusal (document 01, "The capsule"). `Driver a e` and
--- `Payload a e` are an item from byte a of the capsule up to, not including, byte e. Assumes nothing.
+-- Where item k of a capsule s lies, and of which kind it is, or the refusal (document 01, "The capsule"). `Driver a e`
+-- and `Payload a e` are an item from byte a of the capsule up to, not including, byte e. Assumes nothing.
 use Prim.Native.Nat.{ℕ, _+_}
 use mathlib.Core.Bool.{Bool, true, false}
 use mathlib.Core.List.{List}

@@ -19,8 +19,8 @@ abbrev pub unless : Bool → Refusal → Verdict → Verdict
 unless true r rest = rest
 unless false r rest = Refused r
 
--- 10, "capsule below 28 bytes"; 11, 12, 13, "sizes; flags; GUID"; 14, "body below 8 bytes, its version, count or offsets"; 15, "a
--- payload at fault". "within capsules by number"
+-- 10, "capsule below 28 bytes"; 11, 12, 13, "sizes; flags; GUID"; 14, "body below 8 bytes, its version, count or
+-- offsets"; 15, "a payload at fault". "within capsules by number"
 unfoldable pub verdict : List ℕ → Verdict
 verdict s =
     unless (leb headerLeast (length s)) CapsuleShort
@@ -35,7 +35,8 @@ abbrev pub after : Verdict → Verdict → Verdict
 after Faultless next = next
 after (Refused r) next = Refused r
 
--- 16, "no item of that number". "Items are numbered from 0 in list order." 16 comes last, so of a faultless capsule alone
+-- 16, "no item of that number". "Items are numbered from 0 in list order." 16 comes last, so of a faultless capsule
+-- alone
 unfoldable pub itemVerdict : List ℕ → ℕ → Verdict
 itemVerdict s k = after (verdict s) (unless (ltb k (items (body s))) NoItem Faultless)
 

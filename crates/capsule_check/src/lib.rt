@@ -1,6 +1,5 @@
-// The check of a whole capsule, and where an item of a faultless one lies.
-// It reads the header, the list of offsets and the payload headers and no byte of an image, so its cost does not grow with
-// the images' size.
+// The check of a whole capsule, and where an item of a faultless one lies. It reads the header, the list of offsets and
+// the payload headers and no byte of an image, so its cost does not grow with the images' size.
 use capsule_body::body_right;
 use capsule_body::item_end;
 use capsule_body::item_start;

@@ -1,5 +1,5 @@
-// The rules on a capsule's own header, and where its body starts (document 01, "The capsule", first paragraph; UEFI 2.10, 23.3). Each is a
-// function that answers what its definition says.
+// The rules on a capsule's own header, and where its body starts (document 01, "The capsule", first paragraph; UEFI
+// 2.10, 23.3). Each is a function that answers what its definition says.
 ghost use mathlib.Core.Path.{_≡_};
 ghost use mathlib.Core.Bool.{true};
 ghost use Prim.Native.Nat.{_≤_};

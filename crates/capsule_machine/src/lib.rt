@@ -85,9 +85,9 @@ fn with_parts(s: &[u8], k: usize, d: u64) -> u64 {
     let item = capsule::item(s, k);
     let image = capsule_parts::image(s, k);
     let code = capsule_parts::vendor_code(s, k);
-    let x = digest_bytes(item, 0, item.len(), d);
-    let y = digest_bytes(image, 0, image.len(), x);
-    digest_bytes(code, 0, code.len(), y)
+    let x = digest_bytes(item, d);
+    let y = digest_bytes(image, x);
+    digest_bytes(code, y)
 }
 
 pub fn parts(w: &mut [u64; 256], m: &[u8]) {

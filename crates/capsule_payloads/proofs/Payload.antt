@@ -1,15 +1,14 @@
 -- Laws of a payload's header and of what fits in its item. Assumes nothing.
-use mathlib.Core.Path.{_≡_, refl, _∙_}
-use mathlib.Core.Bool.{Bool, true, false, cond, _&&_, _||_, and-false}
+use mathlib.Core.Path.{_≡_}
+use mathlib.Core.Bool.{Bool, true, false, cond, and-false}
 use mathlib.Core.List.{List}
-use mathlib.Core.Logic.{⊎-elim}
-use Prim.Native.Nat.{ℕ, _+_, _<_, _≤_}
+use Prim.Native.Nat.{ℕ, _<_, _≤_}
 use native.Mathlib.Omega.{arith}
-use borrow.Author.Tests.{leb-true, lt-leb, eqb-true, eq-eqb, ne-eqb}
+use borrow.Author.Tests.{leb-true, lt-leb, ne-eqb}
 use lib.Dec.{leb, eqb}
 use lib.ListN.{length}
-use Rattle.fields.proofs.Tests.{both, either, no-true}
-use Rattle.capsule_payloads.specs.Payload.{version, versionRight, headerLength, imageSize, vendorCodeSize, payloadRight, imageStart, imageEnd, vendorCodeEnd}
+use Rattle.fields.proofs.Tests.{both}
+use Rattle.capsule_payloads.specs.Payload.{version, versionRight, headerLength, payloadRight, vendorCodeEnd}
 
 -- a payload header is 32 or 40 bytes long
 pub header-ends : (v : ℕ) → (32 ≤ headerLength v) × (headerLength v ≤ 40)

@@ -10,9 +10,9 @@ use Rattle.fields.specs.Number.{le}
 use Rattle.fields.specs.Guid.{guid}
 use Rattle.capsule_body.specs.Body.{all, drivers, payloads, item}
 
--- "A payload starts with Version (1 or 2), type GUID at 4, image index at 20, three reserved bytes (free), image size at
--- 24, vendor code size at 28; version 2 adds a 64-bit hardware instance at 32."
--- The widths are those of UEFI 2.10, 23.3.2: Version and both sizes 32 bits, the index one byte.
+-- "A payload starts with Version (1 or 2), type GUID at 4, image index at 20, three reserved bytes (free), image size
+-- at 24, vendor code size at 28; version 2 adds a 64-bit hardware instance at 32." The widths are those of UEFI 2.10,
+-- 23.3.2: Version and both sizes 32 bits, the index one byte.
 unfoldable pub version : List ℕ → ℕ
 version p = le 4 p 0
 
@@ -36,7 +36,8 @@ hardwareInstance p = cond (eqb (version p) 1) 0 (le 8 p 32)
 unfoldable pub versionRight : ℕ → Bool
 versionRight v = eqb v 1 || eqb v 2
 
--- "So 32 or 40 bytes, then the image, then the vendor code." 40 for every version but 1; only 1 and 2 pass `versionRight`
+-- "So 32 or 40 bytes, then the image, then the vendor code." 40 for every version but 1; only 1 and 2 pass
+-- `versionRight`
 unfoldable pub headerLength : ℕ → ℕ
 headerLength v = cond (eqb v 1) 32 40
 

@@ -1,5 +1,5 @@
-// The rules on a capsule's payload headers (document 01, "The capsule"; UEFI 2.10, 23.3.2). Each is a function that answers what its definition
-// says. No byte of an image is read.
+// The rules on a capsule's payload headers (document 01, "The capsule"; UEFI 2.10, 23.3.2). Each is a function that
+// answers what its definition says. No byte of an image is read.
 use capsule_body::item_bytes;
 ghost use mathlib.Core.Path.{_≡_};
 ghost use mathlib.Core.Bool.{true};

@@ -1,5 +1,5 @@
--- What the definitions compute: a capsule with one driver and one payload, the flag rule, document 01's sample 12, 13 and 15. No contract cites
--- this file. Assumes nothing.
+-- What the definitions compute: a capsule with one driver and one payload, the flag rule, document 01's sample 12, 13
+-- and 15. No contract cites this file. Assumes nothing.
 use Prim.Native.Nat.{ℕ}
 use mathlib.Core.Path.{_≡_, refl}
 use mathlib.Core.List.{List, [], _∷_, _++_}
@@ -53,7 +53,8 @@ unfolding bytes
 payload-bytes = (refl, refl)
 
 -- "Flag 0x00040000 (reset) needs 0x00010000 (persist). Other flags are free."
-flag-rule : (flagsRight 0x00040000 ≡ false) × (flagsRight 0x00050000 ≡ true) × (flagsRight 0x00020000 ≡ true) × (flagsRight 0xfffeffff ≡ false)
+flag-rule : (flagsRight 0x00040000 ≡ false) × (flagsRight 0x00050000 ≡ true)
+    × (flagsRight 0x00020000 ≡ true) × (flagsRight 0xfffeffff ≡ false)
 unfolding flagsRight
 flag-rule = (refl, refl, refl, refl)
 
@@ -67,6 +68,7 @@ sample-12 = (refl, refl, refl)
 abbrev version3 : List ℕ
 version3 = header 28 76 ++ bytes 4 1 ++ bytes 2 0 ++ bytes 2 1 ++ bytes 8 16 ++ bytes 4 3 ++ replicate 28 0
 
-others : (verdictNumber (verdict (replicate 16 0 ++ drop 16 (header 28 28))) ≡ 13) × (refusalNumber version3 0 ≡ 15) × (refusalNumber version3 9 ≡ 15)
+others : (verdictNumber (verdict (replicate 16 0 ++ drop 16 (header 28 28))) ≡ 13)
+    × (refusalNumber version3 0 ≡ 15) × (refusalNumber version3 9 ≡ 15)
 unfolding le bytes guid same headerSize flags capsuleImageSize sizesRight flagsRight guidRight body version imageSize vendorCodeSize versionRight headerLength payloadRight all bodyVersion drivers payloads offset rises offsetRight bodyRight itemEnd item payloadAtRight payloadsRight verdict itemVerdict
 others = (refl, refl, refl)

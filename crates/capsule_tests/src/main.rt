@@ -1,7 +1,5 @@
-// The capsule's entries at both ends of every limit of document 01, "The capsule", and on sample 12. The cases stand in the file stdin, a
-// script for crate entry_machine.
+// The capsule's entries at both ends of every limit of document 01, "The capsule", and on sample 12. The cases stand in
+// the file stdin, a script for crate entry_machine.
 fn main() {
-    let mut text = [0u8; 65536];
-    let n = io::read_full(0, &mut text);
-    entry_machine::play(&mut text[..n]);
+    entry_machine::play();
 }

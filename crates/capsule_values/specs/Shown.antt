@@ -1,24 +1,29 @@
--- The values that are shown of an item of a capsule s; an `Item` says where it lies or the refusal (document 01, "The capsule": "Type GUID, index and instance are shown too: version 1 shows instance 0, a driver or a
--- refusal all zeros."). Assumes nothing.
+-- The values that are shown of an item of a capsule s; an `Item` says where it lies or the refusal (document 01, "The
+-- capsule": "Type GUID, index and instance are shown too: version 1 shows instance 0, a driver or a refusal all
+-- zeros."). Assumes nothing.
 use Prim.Native.Nat.{ℕ}
-use mathlib.Core.List.{List}
+use mathlib.Core.List.{List, []}
 use lib.ListN.{replicate}
 use Rattle.capsule_body.specs.Body.{part}
 use Rattle.capsule_payloads.specs.Payload.{typeGuid, imageIndex, hardwareInstance}
 use Rattle.capsule_check.specs.declared.Item.{Item}
 use Rattle.capsule_check.specs.declared.Item.the-variants.{Driver, Payload, Refused}
 
+-- what f tells of a payload's bytes; zeros of a driver and of a refusal
+abbrev pub shown : {A : Type 0} → (f : List ℕ → A) (zeros : A) → List ℕ → Item → A
+shown f zeros s (Driver a e) = zeros
+shown f zeros s (Payload a e) = f (part s a e)
+shown f zeros s (Refused r) = zeros
+
+-- the bytes themselves
+abbrev pub payloadOf : List ℕ → Item → List ℕ
+payloadOf s i = shown (λ (p : List ℕ). p) [] s i
+
 abbrev pub typeGuidOf : List ℕ → Item → List ℕ
-typeGuidOf s (Driver a e) = replicate 16 0
-typeGuidOf s (Payload a e) = typeGuid (part s a e)
-typeGuidOf s (Refused r) = replicate 16 0
+typeGuidOf s i = shown typeGuid (replicate 16 0) s i
 
 abbrev pub imageIndexOf : List ℕ → Item → ℕ
-imageIndexOf s (Driver a e) = 0
-imageIndexOf s (Payload a e) = imageIndex (part s a e)
-imageIndexOf s (Refused r) = 0
+imageIndexOf s i = shown imageIndex 0 s i
 
 abbrev pub hardwareInstanceOf : List ℕ → Item → ℕ
-hardwareInstanceOf s (Driver a e) = 0
-hardwareInstanceOf s (Payload a e) = hardwareInstance (part s a e)
-hardwareInstanceOf s (Refused r) = 0
+hardwareInstanceOf s i = shown hardwareInstance 0 s i

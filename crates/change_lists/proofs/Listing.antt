@@ -1,60 +1,55 @@
--- The list of a change: what its functions are asked, and what they have listed at each way out. Assumes nothing.
+-- The list of a change and of a repair: what is listed at each way out. Assumes nothing.
 use mathlib.Core.Path.{_≡_, sym, _∙_}
-use mathlib.Core.Bool.{true, false, _&&_}
+use mathlib.Core.Bool.{true, false}
 use mathlib.Core.List.{List, [], _++_}
 use Prim.Native.Nat.{ℕ}
 use Rattle.fields.specs.Guid.{same}
-use Rattle.fields.proofs.Tests.{both}
-use Rattle.fields.proofs.Guid.{same-true}
-use Rattle.record.specs.Layout.{copySize, bankCount, recordOf, copy0, copy1}
-use Rattle.record.specs.Rules.{sound, soundCopy}
-use Rattle.record.proofs.Sound.{sound-sized}
-use Rattle.copies.specs.Copies.{recordsEqual, soundAndEqual}
+use Rattle.record.specs.Layout.{copySize, recordOf, copy0, copy1}
+use Rattle.copies.specs.Copies.{sourceOf, readFrom, soundAndEqual}
+use Rattle.copies.specs.declared.Source.{Source}
+use Rattle.copies.specs.declared.Source.the-variants.{Copy0, Copy1}
+use Rattle.copies.proofs.Reading.{copy0-unsound, equal-same}
 use Rattle.stores.specs.Stores.{Store, plan}
 use Rattle.stores.specs.Added.{Added}
-use Rattle.stores.proofs.Laid.{added-then, added-all, withList-none}
-use Rattle.alterations.specs.ChangeStores.{copyStores, changeStores}
-use Rattle.alterations.specs.Altered.{recordWith, Within, Alterable, Changeable, AtFront}
+use Rattle.stores.proofs.Laid.{added-all, withList-none}
+use Rattle.change_lists.specs.ChangeStores.{copyStores, changeStores, otherStores, repairStores}
+use Rattle.alterations.specs.Altered.{recordWith}
+use Rattle.change_lists.specs.Lists.{AtFront}
 use Rattle.alterations.specs.declared.Alteration.{Alteration}
 
--- sound and equal copies hold one record
-pub equal-sound : (a : List ℕ) → soundAndEqual a ≡ true → sound (recordOf (copy0 a)) ≡ true
-unfolding soundAndEqual soundCopy
-equal-sound a e =
-    let p = both (soundCopy (copy0 a) && soundCopy (copy1 a)) (recordsEqual a) e in
-    both (soundCopy (copy0 a)) (soundCopy (copy1 a)) (p .0) .0
+-- a list from the front, and none
+pub listed : (n : ℕ) (ss : List Store) (d f : List ℕ) → Added 0 n ss d f → AtFront n ss d f
+listed n ss d f s = let q = added-all n ss d f s in record { count = q .0; lists = q .1 }
 
-pub equal-same : (a : List ℕ) → soundAndEqual a ≡ true → recordOf (copy0 a) ≡ recordOf (copy1 a)
-unfolding soundAndEqual recordsEqual
-equal-same a e =
-    same-true (recordOf (copy0 a)) (recordOf (copy1 a)) (both (soundCopy (copy0 a) && soundCopy (copy1 a)) (recordsEqual a) e .1)
+pub listed-none : (ss : List Store) (d : List ℕ) → ss ≡ [] → AtFront 0 ss d d
+listed-none ss d e = record { count = rw e; lists = rw (e, withList-none) }
 
--- one list behind the other, from the front
-pub listed-then : (n m : ℕ) (one two : List Store) (d f g : List ℕ) → Added 0 n one d f → Added n m two f g → AtFront m (one ++ two) d g
-listed-then n m one two d f g s t =
-    let q = added-all m (one ++ two) d g (added-then 0 n m one two d f g s t) in
-    record { count = q .0; lists = q .1 }
-
--- r is the record of copy 0
-module _ (x : Alteration) (a d r : List ℕ) (e : r ≡ recordOf (copy0 a)) (p : Changeable a d) (w : Within x (recordOf (copy0 a))) where
-  pub alterable : Alterable x r (bankCount r)
-  alterable = record { sized = sound-sized r (rw e (equal-sound a (p .equal))); within = rw e w }
-
+-- a change: r is the record of copy 0, and of copy 1
+module _ (x : Alteration) (a r : List ℕ) (e : r ≡ recordOf (copy0 a)) (q : soundAndEqual a ≡ true) where
   second : recordOf (copy1 a) ≡ r
-  second = sym (e ∙ equal-same a (p .equal))
+  second = sym (e ∙ equal-same a q)
 
   abbrev stores : List Store
   stores = changeStores a (recordWith x (recordOf (copy0 a)))
 
-  stores-none : true ≡ same r (recordWith x r) → stores ≡ []
+  pub stores-none : true ≡ same r (recordWith x r) → stores ≡ []
   unfolding changeStores copyStores
   stores-none h = rw (← e, second, ← h)
 
-  -- nothing to do
-  pub listed-none : true ≡ same r (recordWith x r) → AtFront 0 stores d d
-  listed-none h = record { count = rw (stores-none h); lists = rw (stores-none h, withList-none) }
-
-  -- both copies
   pub stores-both : false ≡ same r (recordWith x r) → stores ≡ plan 0 (copy0 a) (recordWith x r) ++ plan copySize (copy1 a) (recordWith x r)
   unfolding changeStores copyStores
   stores-both h = rw (← e, second, ← h)
+
+-- a repair
+module _ (a : List ℕ) where
+  pub repair-none : true ≡ soundAndEqual a → repairStores a ≡ []
+  unfolding repairStores
+  repair-none h = rw (← h)
+
+  pub repair-copy1 : (s : Source) → s ≡ sourceOf a → s ≡ Copy0 → false ≡ soundAndEqual a → repairStores a ≡ plan copySize (copy1 a) (readFrom s a)
+  unfolding repairStores otherStores
+  repair-copy1 s e z h = rw (← h, ← e, z)
+
+  pub repair-copy0 : (s : Source) → s ≡ sourceOf a → s ≡ Copy1 → repairStores a ≡ plan 0 (copy0 a) (readFrom s a)
+  unfolding repairStores otherStores soundAndEqual
+  repair-copy0 s e z = rw (copy0-unsound a (sym e ∙ z), ← e, z)

@@ -1,28 +1,40 @@
-// The stores that put an altered record into both copies (document 01, "Session and calls": "After all stores both copies hold the new
-// record"). Every word is told anew for each copy; nothing is kept.
+// The stores that put a record into copies (document 01, "Session and calls"): an altered one into both ("After all
+// stores both copies hold the new record"), and by repair the one that is read into the other. One writer lists them,
+// over where the words come from: a repair alters nothing. Every word is told anew for each copy; nothing is kept.
 use alterations::Alteration;
 use alterations::new_crc;
 use alterations::new_word;
+use alterations::unaltered;
 use alterations::unchanged;
+use copies::Source;
+use copies::held_record;
+use copies::read_record;
+use copies::second_agrees;
 use fields::read32;
-use record::AREA;
+use record::ACTIVE_AT;
 use record::COPY;
-use record::record_in_copy0;
+use record::CRC_AT;
+use record::VERSION_AT;
+use record::bank_count;
+use record::version;
 use stores::put_differing;
 use stores::put_pair;
 ghost use mathlib.Core.Path.{_≡_};
-ghost use mathlib.Core.List.{_++_};
+ghost use mathlib.Core.Logic.{_≢_};
 ghost use Prim.Native.Nat.{_+_, _-_, _/_, _≤_};
 ghost use lib.ListN.{length};
-ghost use Rattle.record.specs.Layout.{areaSize, copySize, recordOf, copy0, copy1};
+ghost use Rattle.record.specs.Layout.{areaSize, copySize, copyAt, copy0, recordOf};
 ghost use Rattle.record.specs.Rules.{crcOf};
+ghost use Rattle.copies.specs.Copies.{sourceOf};
+ghost use Rattle.copies.specs.declared.Source.the-variants.{Neither};
 ghost use Rattle.stores.specs.Stores.{offsets, plan, storeNumbers};
-ghost use Rattle.stores.specs.Added.{Added, stored, Listable};
-ghost use Rattle.alterations.specs.ChangeStores.{changeStores};
-ghost use Rattle.alterations.specs.Altered.{alteredBy, recordWith, Within, Alterable, Changeable, AtFront};
+ghost use Rattle.stores.specs.Added.{Added, stored, Listable, copyPairs};
+ghost use Rattle.change_lists.specs.ChangeStores.{changeStores, repairStores};
+ghost use Rattle.alterations.specs.Altered.{alteredBy, recordWith, Within, Alterable};
+ghost use Rattle.change_lists.specs.Lists.{Changeable, AtFront};
 
-// The new record's words from 8 on where the copy c holds another.
-fn put_new_words(
+// The new record's words behind its version where the copy c holds another.
+fn put_words(
     c: &[u8],
     r: &[u8],
     banks: usize,
@@ -31,11 +43,12 @@ fn put_new_words(
     out: &mut [u32],
     k: usize,
 ) -> usize
-    requires { ⌜ Alterable x (now r) banks × Listable (now c) (now r) base k (length (now out) + 4) ⌝ }
-    ensures { λ n. ⌜ Added k n (stored base (now (c .entry)) (recordWith x (now (r .entry))) (offsets 8 (length (now (r .entry)) / 4 - 2))) (now (out .entry)) (now (out .exit)) × (n ≤ k + (length (now (r .entry)) / 4 - 2)) ⌝ }
+    requires { ⌜ Alterable x (now r) banks × Listable (now c) (now r) base k (length (now out)) ⌝ }
+    ensures { λ n. ⌜ Added k n (stored base (now (c .entry)) (recordWith x (now (r .entry))) (offsets 8 (length (now (r .entry)) / 4 - 2)))
+        (now (out .entry)) (now (out .exit)) × (n ≤ k + (length (now (r .entry)) / 4 - 2)) ⌝ }
 {
     let mut j = k;
-    let mut o = 8;
+    let mut o = ACTIVE_AT;
     while o < r.len() {
         j = put_differing(read32(c, o), new_word(r, banks, x, o), base, out, j, o);
         o += 4;
@@ -43,45 +56,61 @@ fn put_new_words(
     j
 }
 
-// Lists the stores that put the new record into the copy c, which stands at base in the area, behind the k pairs that out has.
-fn put_change(
-    c: &[u8],
+// Lists the stores that put the new record into the copy that stands at base, behind the k pairs that out has. crc is
+// the new record's.
+fn put_copy(
+    area: &[u8],
+    base: usize,
     r: &[u8],
     banks: usize,
     x: Alteration,
     crc: u32,
-    base: u32,
     out: &mut [u32],
     k: usize,
 ) -> usize
-    requires { ⌜ Alterable x (now r) banks × (crc ≡ crcOf (alteredBy x (now r))) × Listable (now c) (now r) base k (length (now out)) ⌝ }
-    ensures { λ n. ⌜ Added k n (plan base (now (c .entry)) (recordWith x (now (r .entry)))) (now (out .entry)) (now (out .exit)) × (n ≤ k + length (now (r .entry)) / 4 + 1) ⌝ }
+    requires { ⌜ Alterable x (now r) banks × (crc ≡ crcOf (alteredBy x (now r))) × (length (now area) ≡ areaSize)
+        × (base ≤ copySize) × (k ≤ copyPairs) × (storeNumbers ≤ length (now out)) ⌝ }
+    ensures { λ n. ⌜ Added k n (plan base (copyAt base (now (area .entry))) (recordWith x (now (r .entry))))
+        (now (out .entry)) (now (out .exit)) × (n ≤ k + copyPairs) ⌝ }
 {
-    let first = put_pair(out, k, base + 4, 0);
-    let second = put_differing(read32(c, 0), crc, base, out, first, 0);
-    let third = put_new_words(c, r, banks, x, base, out, second);
-    put_pair(out, third, base + 4, read32(r, 4))
+    let c = &area[base..base + COPY];
+    let at = base as u32;
+    let spoilt = put_pair(out, k, at + VERSION_AT as u32, 0);
+    let second = put_differing(read32(c, CRC_AT), crc, at, out, spoilt, CRC_AT);
+    let third = put_words(c, r, banks, x, at, out, second);
+    put_pair(out, third, at + VERSION_AT as u32, version(r))
 }
 
-// Into both copies, copy 0 whole before copy 1.
-fn put_both(area: &[u8], r: &[u8], banks: usize, x: Alteration, crc: u32, out: &mut [u32]) -> usize
-    requires { ⌜ Alterable x (now r) banks × (crc ≡ crcOf (alteredBy x (now r))) × (length (now area) ≡ areaSize) × (storeNumbers ≤ length (now out)) ⌝ }
-    ensures { λ n. ⌜ AtFront n (plan 0 (copy0 (now (area .entry))) (recordWith x (now (r .entry))) ++ plan copySize (copy1 (now (area .entry))) (recordWith x (now (r .entry)))) (now (out .entry)) (now (out .exit)) ⌝ }
-{
-    let n = put_change(&area[0..COPY], r, banks, x, crc, 0, out, 0);
-    put_change(&area[COPY..AREA], r, banks, x, crc, 8192, out, n)
-}
-
-// Lists the stores that make the alteration in both copies; none where it alters nothing.
+// Lists the stores that make the alteration in both copies, copy 0 whole before copy 1; none where it alters nothing.
 pub fn list_change(area: &[u8], x: Alteration, out: &mut [u32]) -> usize
     requires { ⌜ Changeable (now area) (now out) × Within x (recordOf (copy0 (now area))) ⌝ }
-    ensures { λ n. ⌜ AtFront n (changeStores (now (area .entry)) (recordWith x (recordOf (copy0 (now (area .entry)))))) (now (out .entry)) (now (out .exit)) ⌝ }
+    ensures { λ n. ⌜ AtFront n (changeStores (now (area .entry)) (recordWith x (recordOf (copy0 (now (area .entry))))))
+        (now (out .entry)) (now (out .exit)) ⌝ }
 {
-    let r = record_in_copy0(area);
-    let banks = r[32] as usize;
-    let crc = new_crc(r, banks, x);
-    if unchanged(r, banks, x, crc) {
+    let r = held_record(area);
+    let banks = bank_count(r);
+    if unchanged(r, banks, x) {
         return 0;
     }
-    put_both(area, r, banks, x, crc, out)
+    let crc = new_crc(r, banks, x);
+    let n = put_copy(area, 0, r, banks, x, crc, out, 0);
+    put_copy(area, COPY, r, banks, x, crc, out, n)
+}
+
+// Lists the stores of a repair: the record read into the other copy; none where the copies are sound and equal.
+pub fn list_repair(area: &[u8], from: Source, out: &mut [u32]) -> usize
+    requires { ⌜ (length (now area) ≡ areaSize) × (from ≡ sourceOf (now area)) × (from ≢ Neither) × (storeNumbers ≤ length (now out)) ⌝ }
+    ensures { λ n. ⌜ AtFront n (repairStores (now (area .entry))) (now (out .entry)) (now (out .exit)) ⌝ }
+{
+    let r = read_record(area, from);
+    let banks = bank_count(r);
+    let x = unaltered(r);
+    let crc = read32(r, CRC_AT);
+    if let Source::Copy0 = from {
+        if second_agrees(area) {
+            return 0;
+        }
+        return put_copy(area, COPY, r, banks, x, crc, out, 0);
+    }
+    put_copy(area, 0, r, banks, x, crc, out, 0)
 }

@@ -5,20 +5,15 @@ use mathlib.Core.List.{List}
 use Prim.Native.Nat.{ℕ, _+_, _≤_, _<_}
 use native.Mathlib.Nat.{mod-lt}
 use native.Mathlib.Omega.{arith}
-use lib.ListN.{length}
-use Rattle.record.specs.Layout.{headerSize, bankLimit, active, bankCount, imageCount}
+use Rattle.record.specs.Layout.{bankLimit, active, bankCount, imageCount}
 use Rattle.record.specs.Rules.{sound}
 use Rattle.record.specs.Sized.{Sized}
-use Rattle.record.proofs.Sizes.{header-in}
 use Rattle.record.proofs.Sound.{sound-sized, sound-named}
 use Rattle.changes.specs.NewRecord.{updateBankOf}
 
 module _ (r : List ℕ) (e : sound r ≡ true) where
   pub sized : Sized r (bankCount r) (imageCount r)
   sized = sound-sized r e
-
-  pub header : headerSize ≤ length r
-  header = header-in r (bankCount r) (imageCount r) sized
 
   pub banks-few : (2 ≤ bankCount r) × (bankCount r ≤ bankLimit)
   banks-few = (sized .banks-low, sized .banks-high)

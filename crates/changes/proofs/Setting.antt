@@ -1,6 +1,7 @@
 -- What a record with one field anew says. Assumes nothing.
 use mathlib.Core.Path.{_≡_, refl}
 use mathlib.Core.Logic.{_⊎_, inl, inr, ⊎-elim}
+use mathlib.Core.Bool.{true}
 use mathlib.Core.List.{List, [], _∷_}
 use Prim.Native.Nat.{ℕ, suc, _+_, _*_, _≤_, _<_}
 use native.Mathlib.Nat.{suc-mul}
@@ -12,23 +13,31 @@ use Rattle.fields.proofs.Put.{put-outside, read-back}
 use Rattle.fields.proofs.Beside.{byte-back}
 use Rattle.fields.proofs.Bytes.{word-byte, word-apart}
 use Rattle.record.specs.Layout.{active, state, bankCount, imageCount, entrySize, acceptedAt, accepted}
+use Rattle.record.specs.Rules.{sound}
 use Rattle.record.specs.Sized.{Sized}
+use Rattle.record.proofs.Sound.{sound-long, sound-named}
 use Rattle.record.proofs.Sizes.{at-most, bank-in}
 use Rattle.alterations.specs.Fields.{setState, setAccepted}
 use Rattle.changes.specs.NewRecord.{marked}
+use Rattle.changes.proofs.Banks.{sized, banks-few}
 
 either-side : (m n : ℕ) → (m ≡ n → ⊥) → (m < n) ⊎ (n < m)
 either-side m n ne = ⊎-elim (λ le. inr (⊎-elim (λ ge. absurd (ne (omega arith))) (λ lt. lt) (le-or-lt m n))) (λ lt. inl lt) (le-or-lt n m)
 
 -- ---- the state of bank b
-module _ (r : List ℕ) (h : 40 ≤ length r) (b s : ℕ) (k : b < 4) where
+module _ (r : List ℕ) (e : sound r ≡ true) (b s : ℕ) (k : b < bankCount r) where
+  inside : 24 + b + 1 ≤ length r
+  inside = omega (arith, sound-long r e, banks-few r e .1)
+
   pub state-is : state (setState b s r) b ≡ s
   unfolding setState
-  state-is = byte-back r (24 + b) s (omega arith)
+  state-is = byte-back r (24 + b) s inside
 
   pub state-other : (j : ℕ) → (j ≡ b → ⊥) → state (setState b s r) j ≡ state r j
   unfolding setState
-  state-other j ne = put-outside r (24 + b) (s ∷ []) (omega arith) (24 + j) (⊎-elim (λ lt. inl (omega arith)) (λ gt. inr (omega arith)) (either-side j b ne))
+  state-other j ne =
+      put-outside r (24 + b) (s ∷ []) inside (24 + j)
+      (⊎-elim (λ lt. inl (omega arith)) (λ gt. inr (omega arith)) (either-side j b ne))
 
 -- ---- the accepted word of image i in bank b
 -- what Accept marks
@@ -68,3 +77,17 @@ module _ (r : List ℕ) (banks images : ℕ) (z : Sized r banks images) (i b v :
 
   pub accepted-other : (k : ℕ) → (k ≡ i → ⊥) → accepted (setAccepted i b v r) k b ≡ accepted r k b
   accepted-other k ne = rw accepted-banks (other-read k (either-side k i ne))
+
+-- ---- what Accept marks in a sound record: image i, and no other
+module _ (r : List ℕ) (e : sound r ≡ true) (i : ℕ) (hi : i < imageCount r) where
+  pub marked-images : imageCount (marked i r) ≡ imageCount r
+  unfolding marked
+  marked-images = accepted-images r (bankCount r) (imageCount r) (sized r e) i (active r) 1 hi (sound-named r e .0)
+
+  pub marked-at : accepted (marked i r) i (active r) ≡ 1
+  unfolding marked
+  marked-at = accepted-is r (bankCount r) (imageCount r) (sized r e) i (active r) 1 hi (sound-named r e .0) (omega arith)
+
+  pub marked-other : (k : ℕ) → (k ≡ i → ⊥) → accepted (marked i r) k (active r) ≡ accepted r k (active r)
+  unfolding marked
+  marked-other = accepted-other r (bankCount r) (imageCount r) (sized r e) i (active r) 1 hi (sound-named r e .0)

@@ -1,2 +1,3 @@
 -- The record that each call makes of the old one. Assumes nothing.
 pub mod NewRecord
+pub mod Changed

@@ -1,26 +1,44 @@
-// What is asked of a record to tell what a call alters in it (document 01, "Session and calls"): the image with a type GUID, the update
-// bank, and what the record says once one of its fields is anew. A record is a slice of the area's own bytes; nothing is copied.
-use fields::read32;
+// What is asked of a record to tell what a call alters in it (document 01, "Session and calls"): the image with a type
+// GUID, the update bank, and what the record says once one of its fields is anew. A record is a slice of the area's own
+// bytes; nothing is copied.
 use fields::same_guid;
+use record::ACCEPTED;
 use record::accepted_word;
+use record::active;
+use record::bank_count;
 use record::entry_at;
+use record::image_count;
+use record::previous;
+use record::state;
 ghost use mathlib.Core.Path.{_≡_};
 ghost use mathlib.Core.Bool.{true};
-ghost use Prim.Native.Nat.{_≤_, _<_};
+ghost use Prim.Native.Nat.{_+_, _*_, _<_};
 ghost use lib.Dec.{eqb};
 ghost use lib.ListN.{length};
 ghost use Rattle.fields.specs.Number.{le};
-ghost use Rattle.record.specs.Layout.{accepted, state, bankCount};
-ghost use Rattle.record.specs.Rules.{allAccepted, sound};
-ghost use Rattle.record.specs.Sized.{Sized};
-ghost use Rattle.alterations.specs.Fields.{setState, setAccepted};
-ghost use Rattle.changes.specs.NewRecord.{updateBankOf, imageWith};
+ghost use Rattle.record.specs.Layout.{bankLimit, accepted, active, previous, state, stateAt, bankCount, imageCount};
+ghost use Rattle.record.specs.Rules.{acceptedBank, allAccepted, sound};
+ghost use Rattle.alterations.specs.Fields.{setState};
+ghost use Rattle.changes.specs.NewRecord.{updateBankOf, imageWith, marked};
+
+// What a call alters in the record: nothing; or what the line of a call says, by image and not by GUID. The record that
+// each makes is `changedBy` of specs/Changed.antt.
+pub enum Change {
+    Nothing,
+    Begin,
+    Commit { image: usize, request: u32 },
+    End,
+    Accept { image: usize },
+    Exchange,
+}
 
 // The image with that type GUID, or the image count where no entry has it.
-pub fn find_image(r: &[u8], banks: usize, images: usize, guid: &[u8]) -> usize
-    requires { ⌜ Sized (now r) banks images × (length (now guid) ≡ 16) ⌝ }
+pub fn image_of(r: &[u8], guid: &[u8]) -> usize
+    requires { ⌜ (sound (now r) ≡ true) × (length (now guid) ≡ 16) ⌝ }
     ensures { λ i. ⌜ i ≡ imageWith (now (guid .entry)) (now (r .entry)) ⌝ }
 {
+    let banks = bank_count(r);
+    let images = image_count(r);
     let mut i = 0;
     while i < images {
         if same_guid(r, entry_at(banks, i), guid, 0) {
@@ -31,25 +49,26 @@ pub fn find_image(r: &[u8], banks: usize, images: usize, guid: &[u8]) -> usize
     images
 }
 
-// Whether image k of bank b is accepted once image i is.
-fn accepted_with(r: &[u8], banks: usize, images: usize, b: usize, i: usize, k: usize) -> bool
-    requires { ⌜ Sized (now r) banks images × (b < banks) × (i < images) × (k < images) ⌝ }
-    ensures { λ x. ⌜ x ≡ eqb (accepted (setAccepted i b 1 (now (r .entry))) k b) 1 ⌝ }
+// Whether image k of the active bank is accepted once image i is.
+fn accepted_after(r: &[u8], i: usize, k: usize) -> bool
+    requires { ⌜ (sound (now r) ≡ true) × (i < imageCount (now r)) × (k < imageCount (now r)) ⌝ }
+    ensures { λ x. ⌜ x ≡ eqb (accepted (marked i (now (r .entry))) k (active (now (r .entry)))) 1 ⌝ }
 {
     if k == i {
         return true;
     }
-    accepted_word(r, banks, k, b) == 1
+    accepted_word(r, bank_count(r), k, active(r) as usize) == 1
 }
 
-// Whether every image of bank b is accepted once image i is.
-pub fn all_accepted_with(r: &[u8], banks: usize, images: usize, b: usize, i: usize) -> bool
-    requires { ⌜ Sized (now r) banks images × (b < banks) × (i < images) ⌝ }
-    ensures { λ x. ⌜ x ≡ allAccepted (setAccepted i b 1 (now (r .entry))) b ⌝ }
+// Whether every image of the active bank is accepted once image i is.
+pub fn all_accepted_after(r: &[u8], i: usize) -> bool
+    requires { ⌜ (sound (now r) ≡ true) × (i < imageCount (now r)) ⌝ }
+    ensures { λ x. ⌜ x ≡ allAccepted (marked i (now (r .entry))) (active (now (r .entry))) ⌝ }
 {
+    let images = image_count(r);
     let mut k = 0;
     while k < images {
-        if !accepted_with(r, banks, images, b, i, k) {
+        if !accepted_after(r, i, k) {
             return false;
         }
         k += 1;
@@ -59,22 +78,29 @@ pub fn all_accepted_with(r: &[u8], banks: usize, images: usize, b: usize, i: usi
 
 // The state of bank k once that of bank b is s.
 fn state_with(r: &[u8], b: usize, s: u8, k: usize) -> u8
-    requires { ⌜ (40 ≤ length (now r)) × (b < 4) × (k < 4) ⌝ }
+    requires { ⌜ (sound (now r) ≡ true) × (b < bankCount (now r)) × (k < bankLimit) ⌝ }
     ensures { λ x. ⌜ x ≡ state (setState b s (now (r .entry))) k ⌝ }
 {
     if k == b {
         return s;
     }
-    r[24 + k]
+    state(r, k)
+}
+
+// Two bytes as one number, the low one first.
+fn pair(low: u8, high: u8) -> u32
+    ensures { λ w. ⌜ (w ≡ low + 256 * high) × (w < 65536) ⌝ }
+{
+    low as u32 + 256 * (high as u32)
 }
 
 // The word of the four bank states once that of bank b is s.
 pub fn states_with(r: &[u8], b: usize, s: u8) -> u32
-    requires { ⌜ (40 ≤ length (now r)) × (b < 4) ⌝ }
-    ensures { λ w. ⌜ w ≡ le 4 (setState b s (now (r .entry))) 24 ⌝ }
+    requires { ⌜ (sound (now r) ≡ true) × (b < bankCount (now r)) ⌝ }
+    ensures { λ w. ⌜ w ≡ le 4 (setState b s (now (r .entry))) (stateAt 0) ⌝ }
 {
-    let low = state_with(r, b, s, 0) as u32 + 256 * (state_with(r, b, s, 1) as u32);
-    let high = state_with(r, b, s, 2) as u32 + 256 * (state_with(r, b, s, 3) as u32);
+    let low = pair(state_with(r, b, s, 0), state_with(r, b, s, 1));
+    let high = pair(state_with(r, b, s, 2), state_with(r, b, s, 3));
     low + 65536 * high
 }
 
@@ -83,6 +109,15 @@ pub fn update_bank(r: &[u8]) -> usize
     requires { ⌜ sound (now r) ≡ true ⌝ }
     ensures { λ b. ⌜ (b ≡ updateBankOf (now (r .entry))) × (b < bankCount (now (r .entry))) ⌝ }
 {
-    let banks = r[32] as usize;
-    (read32(r, 8) as usize + 1) % banks
+    let banks = bank_count(r);
+    (active(r) as usize + 1) % banks
+}
+
+// Whether the previous bank is accepted.
+pub fn previous_accepted(r: &[u8]) -> bool
+    requires { ⌜ sound (now r) ≡ true ⌝ }
+    ensures { λ b. ⌜ b ≡ eqb (state (now (r .entry)) (previous (now (r .entry)))) acceptedBank ⌝ }
+{
+    let bank = previous(r) as usize;
+    state(r, bank) == ACCEPTED
 }

@@ -6,12 +6,13 @@ use mathlib.Core.List.{List}
 use Prim.Native.Nat.{ℕ, _+_, _*_, _^_, _≤_, _<_}
 use native.Mathlib.Nat.{lt-of-lt-of-le, pow-succ'}
 use native.Mathlib.Omega.{arith}
-use borrow.Author.Tests.{ltb-true, eq-eqb, le-leb, lt-leb, lt-ltb, le-ltb}
+use borrow.Author.Tests.{eqb-true, ltb-true, eq-eqb, le-leb, lt-leb, lt-ltb, le-ltb}
 use lib.Count.{leadingZeros, leading-length}
 use lib.Dec.{eqb, leb, ltb}
 use lib.Pow.{pow-mono}
 use Rattle.fields.proofs.Tests.{both, le-or-lt}
 use Rattle.record.specs.Layout.{state, imageCount}
+use Rattle.record.specs.Rules.{invalid}
 use Rattle.changes.specs.NewRecord.{updateBankOf}
 use Rattle.committed_set.specs.Set.{setBits, stagedFits}
 
@@ -34,8 +35,14 @@ pub set-decides : (bank set k : ℕ) (r : List ℕ) → bank ≡ updateBankOf r 
 unfolding stagedFits
 set-decides bank set k r b s i h = rw (above-highest setBits k set h, eq-eqb bank (updateBankOf r) b, eq-eqb (state r bank) 255 s, i)
 
-pub set-below : (bank set : ℕ) (r : List ℕ) → stagedFits bank set r ≡ true → set < 2 ^ imageCount r
+-- what fits
+pub fit-parts : (bank set : ℕ) (r : List ℕ) → stagedFits bank set r ≡ true
+    → (bank ≡ updateBankOf r) × (state r bank ≡ invalid) × (set < 2 ^ imageCount r)
 unfolding stagedFits
-set-below bank set r e =
-    let p = both (eqb bank (updateBankOf r)) (eqb (state r bank) 255 && ltb set (2 ^ imageCount r)) e in
-    ltb-true set (2 ^ imageCount r) (both (eqb (state r bank) 255) (ltb set (2 ^ imageCount r)) (p .1) .1)
+fit-parts bank set r e =
+    let p = both (eqb bank (updateBankOf r)) (eqb (state r bank) invalid && ltb set (2 ^ imageCount r)) e in
+    let q = both (eqb (state r bank) invalid) (ltb set (2 ^ imageCount r)) (p .1) in
+    (eqb-true bank (updateBankOf r) (p .0), eqb-true (state r bank) invalid (q .0), ltb-true set (2 ^ imageCount r) (q .1))
+
+pub set-below : (bank set : ℕ) (r : List ℕ) → stagedFits bank set r ≡ true → set < 2 ^ imageCount r
+set-below bank set r e = fit-parts bank set r e .2

@@ -2,15 +2,13 @@
 use mathlib.Core.Path.{_≡_}
 use mathlib.Core.Bool.{true}
 use mathlib.Core.List.{List}
-use Prim.Native.Nat.{ℕ, _+_, _≤_, _<_}
-use native.Mathlib.Nat.{mod-lt}
-use native.Mathlib.Omega.{arith}
+use Prim.Native.Nat.{ℕ, _≤_, _<_}
 use lib.ListN.{length}
 use Rattle.record.specs.Layout.{headerSize, bankLimit, imageLimit, active, previous, bankCount, imageCount}
 use Rattle.record.specs.Rules.{sound}
-use Rattle.record.proofs.Sound.{sound-sized, sound-named}
-use Rattle.record.proofs.Sizes.{header-in}
+use Rattle.record.proofs.Sound.{sound-long, sound-named}
 use Rattle.changes.specs.NewRecord.{updateBankOf}
+use Rattle.changes.proofs.Banks as banks
 
 -- the header of a sound record is there, and its numbers have limits
 pub record Known (r : List ℕ) : Type 0 where
@@ -24,14 +22,14 @@ pub record Known (r : List ℕ) : Type 0 where
 
 pub known : (r : List ℕ) → sound r ≡ true → Known r
 known r e =
-    let s = sound-sized r e in
+    let s = banks.sized r e in
     let n = sound-named r e in
     record {
-      header = header-in r (bankCount r) (imageCount r) s;
+      header = sound-long r e;
       banks-low = s .banks-low;
       banks-high = s .banks-high;
       images-high = s .images-high;
       active-low = n .0;
       previous-low = n .1;
-      update-low = mod-lt (active r + 1) (omega (arith, s .banks-low));
+      update-low = banks.update-in r e;
     }

@@ -1,6 +1,6 @@
--- The set of committed images, image by image (document 01, "Session and calls": "it joins the set"; "every image must be in the set; a refusal
--- tells how many are missing"; "a set bit at or past the image count"): what the bits and the count of ones in specs/Set.antt mean (`set-laws`,
--- proofs/SetLaws.antt). Assumes nothing.
+-- The set of committed images, image by image (document 01, "Session and calls": "it joins the set"; "every image must
+-- be in the set; a refusal tells how many are missing"; "a set bit at or past the image count"): what the bits and the
+-- count of ones in specs/Set.antt mean (`set-laws`, proofs/SetLaws.antt). Assumes nothing.
 use Prim.Native.Nat.{ℕ, zero, suc, _+_, _/_, _%_, _^_, _≤_, _<_}
 use mathlib.Core.Path.{_≡_}
 use mathlib.Core.Bool.{Bool, false, cond, _||_}

@@ -1,18 +1,21 @@
-// The set of committed images (document 01, "Session and calls"): whether a Staging session's bank and set fit a record (24), and how
-// many images the set lacks (27).
+// The set of committed images (document 01, "Session and calls"): whether a Staging session's bank and set fit a record
+// (24), and how many images the set lacks (27).
 use changes::update_bank;
-use fields::read16;
+use record::INVALID;
+use record::image_count;
+use record::state;
 ghost use mathlib.Core.Path.{_≡_};
 ghost use mathlib.Core.Bool.{true};
 ghost use Prim.Native.Nat.{_<_, _^_};
 ghost use Rattle.record.specs.Layout.{imageCount};
 ghost use Rattle.record.specs.Rules.{sound};
-ghost use Rattle.committed_set.specs.Set.{missing, stagedFits};
+ghost use Rattle.committed_set.specs.Set.{setBits, joined, missing, stagedFits};
 
 // "a 32-bit set of committed images".
 const SET_BITS: u32 = 32;
 
-// Whether a Staging session is free of 24. The bank is looked up only where it is the update bank: a session may name any number.
+// Whether a Staging session is free of 24. The bank is looked up only where it is the update bank: a session may name
+// any number.
 pub fn staged(r: &[u8], bank: u32, set: u32) -> bool
     requires { ⌜ sound (now r) ≡ true ⌝ }
     ensures { λ b. ⌜ b ≡ stagedFits bank set (now (r .entry)) ⌝ }
@@ -20,13 +23,21 @@ pub fn staged(r: &[u8], bank: u32, set: u32) -> bool
     if bank as usize != update_bank(r) {
         return false;
     }
-    let at = 24 + bank as usize;
-    if r[at] != 255 {
+    if state(r, bank as usize) != INVALID {
         return false;
     }
-    // no bit at or past the image count: so many zeros stand at the set's top that with the images they make its width, or more
-    let images = read16(r, 34) as u32;
+    // no bit at or past the image count: so many zeros stand at the set's top that with the images they make its width,
+    // or more
+    let images = image_count(r) as u32;
     SET_BITS <= images + u32::leading_zeros(set)
+}
+
+// The set with image i too.
+pub fn with_image(set: u32, i: usize) -> u32
+    requires { ⌜ i < setBits ⌝ }
+    ensures { λ s. ⌜ s ≡ joined i set ⌝ }
+{
+    set | (1u32 << (i as u32))
 }
 
 // How many images are not in the set: "image count minus the committed set's count of ones".
@@ -34,6 +45,6 @@ pub fn missing_images(r: &[u8], set: u32) -> u32
     requires { ⌜ (sound (now r) ≡ true) × (set < 2 ^ imageCount (now r)) ⌝ }
     ensures { λ n. ⌜ n ≡ missing set (now (r .entry)) ⌝ }
 {
-    let images = read16(r, 34) as u32;
+    let images = image_count(r) as u32;
     images - u32::count_ones(set)
 }

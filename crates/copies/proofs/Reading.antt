@@ -1,14 +1,20 @@
 -- What is known of the copy that is read. Assumes nothing.
-use mathlib.Core.Path.{_≡_, refl, sym, ap, _∙_}
-use mathlib.Core.Bool.{Bool, true, false, cond}
-use mathlib.Core.List.{List}
+use mathlib.Core.Path.{_≡_, refl, sym}
+use mathlib.Core.Bool.{Bool, true, false, cond, _&&_}
+use mathlib.Core.List.{List, _∷_, []}
+use mathlib.Core.Logic.{_≢_, ⊎-elim}
 use Prim.Native.Nat.{ℕ}
 use native.Mathlib.Omega.{arith}
+use denote.Enum.Declared.{tagOf}
+use types.Run.{OneOf}
+use Rattle.fields.proofs.Tests.{both}
+use Rattle.fields.proofs.Guid.{same-true}
 use Rattle.record.specs.Layout.{recordOf, copy0, copy1}
 use Rattle.record.specs.Rules.{sound, soundCopy}
-use Rattle.copies.specs.Copies.{sourceOf}
+use Rattle.copies.specs.Copies.{sourceOf, readFrom, recordsEqual, soundAndEqual}
 use Rattle.copies.specs.declared.Source.{Source}
 use Rattle.copies.specs.declared.Source.the-variants.{Copy0, Copy1, Neither}
+use Rattle.copies.proofs.Source.{the-type}
 
 first : (x y : Bool) → cond x Copy0 (cond y Copy1 Neither) ≡ Copy0 → x ≡ true
 first true y e = refl
@@ -33,3 +39,28 @@ from-copy1 a e = second (soundCopy (copy0 a)) (soundCopy (copy1 a)) e .1
 pub copy0-unsound : (a : List ℕ) → sourceOf a ≡ Copy1 → soundCopy (copy0 a) ≡ false
 unfolding sourceOf
 copy0-unsound a e = second (soundCopy (copy0 a)) (soundCopy (copy1 a)) e .0
+
+-- one that is neither none nor copy 0, as a match tells it
+pub is-copy1 : (s : Source) → OneOf (1 ∷ 2 ∷ []) (tagOf the-type s) → s ≢ Neither → s ≡ Copy1
+is-copy1 Copy0 h n = ⊎-elim (λ e. absurd (omega arith)) (λ e. absurd (omega arith)) h
+is-copy1 Copy1 h n = refl
+is-copy1 Neither h n = absurd (n refl)
+
+-- the record read is sound, where there is one
+pub read-sound : (s : Source) (a : List ℕ) → s ≡ sourceOf a → s ≢ Neither → sound (readFrom s a) ≡ true
+unfolding readFrom
+read-sound Copy0 a e n = from-copy0 a (sym e)
+read-sound Copy1 a e n = from-copy1 a (sym e)
+read-sound Neither a e n = absurd (n refl)
+
+-- sound and equal copies hold one record
+pub equal-sound : (a : List ℕ) → soundAndEqual a ≡ true → sound (recordOf (copy0 a)) ≡ true
+unfolding soundAndEqual soundCopy
+equal-sound a e =
+    let p = both (soundCopy (copy0 a) && soundCopy (copy1 a)) (recordsEqual a) e in
+    both (soundCopy (copy0 a)) (soundCopy (copy1 a)) (p .0) .0
+
+pub equal-same : (a : List ℕ) → soundAndEqual a ≡ true → recordOf (copy0 a) ≡ recordOf (copy1 a)
+unfolding soundAndEqual recordsEqual
+equal-same a e =
+    same-true (recordOf (copy0 a)) (recordOf (copy1 a)) (both (soundCopy (copy0 a) && soundCopy (copy1 a)) (recordsEqual a) e .1)

@@ -1,4 +1,5 @@
--- Which copy is read, and when the copies are equal (document 01, "The record"). a is the bytes of an area. Assumes nothing.
+-- Which copy is read, and when the copies are equal (document 01, "The record"). a is the bytes of an area. Assumes
+-- nothing.
 use Prim.Native.Nat.{ℕ}
 use mathlib.Core.Bool.{Bool, cond, _&&_}
 use mathlib.Core.List.{List, []}

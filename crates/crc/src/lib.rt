@@ -1,5 +1,6 @@
-// CRC-32 (document 01, "The record": "the GPT's (reflected, 0xEDB88320, start and final exclusive-or all ones)"), bit by bit.
-// Callers go by the promises of `crc32` and `with_word` alone, so a table changes only what stands in this crate.
+// CRC-32 (document 01, "The record": "the GPT's (reflected, 0xEDB88320, start and final exclusive-or all ones)"), bit
+// by bit. Callers go by the promises of `crc32` and `with_word` alone, so a table changes only what stands in this
+// crate.
 ghost use mathlib.Core.Path.{_≡_};
 ghost use Rattle.fields.specs.Number.{bytes};
 ghost use Rattle.crc.specs.Crc.{step, withByte, withBytes, crc32Of};

@@ -1,6 +1,4 @@
 -- The proof. Assumes nothing.
-pub mod Laid
-pub mod Changed
-pub mod Events
+pub mod Lists
 pub mod Demand3
 pub mod Sample

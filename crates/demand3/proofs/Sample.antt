@@ -1,67 +1,44 @@
--- The conditions can be met: each of the six calls, and a repair, is accepted on an area that holds the bench sheet's record of document 01
--- twice (two banks, one image, all accepted, active 0, previous 1), or on the area that Begin leaves of it. Assumes nothing.
-use mathlib.Core.Path.{_≡_, refl, sym, ap, subst, _∙_}
-use mathlib.Core.Bool.{Bool, true, _&&_}
+-- The conditions can be met, and the lists are not all empty: an update from the bench sheet's record of document 01
+-- (two banks, one image, all accepted, active 0, previous 1). Begin; Commit, Cancel and End on what it leaves; Accept
+-- and Select previous on what End leaves, where the image is not accepted yet; and a repair wherever that Begin is cut.
+-- Assumes nothing.
+use mathlib.Core.Path.{_≡_, refl, sym, ap, _∙_}
+use mathlib.Core.Logic.{_≢_}
+use mathlib.Core.Bool.{false}
 use mathlib.Core.List.{List, []}
 use Prim.Native.Nat.{ℕ, _≤_}
 use native.Mathlib.Omega.{arith}
 use borrow.Author.Tests.{eq-eqb, le-ltb}
 use lib.Count.{onesIn}
-use lib.Dec.{eqb, ltb}
 use lib.ListN.{length, replicate, length-replicate}
-use Rattle.fields.specs.Number.{le, bytes, put}
+use Rattle.fields.specs.Number.{Bytes, le, bytes, put}
 use Rattle.fields.specs.Guid.{guid, same}
-use Rattle.fields.proofs.Guid.{same-refl}
-use Rattle.record.specs.Every.{least}
-use Rattle.record.specs.Layout.{areaSize, recordOf, copy0, copy1, previous, state, imageCount}
-use Rattle.record.specs.Rules.{acceptedBank, soundCopy}
-use Rattle.copies.specs.Copies.{recordsEqual, soundAndEqual}
+use Rattle.record.specs.Every.{least, below}
+use Rattle.record.specs.Layout.{areaSize, active, state}
+use Rattle.record.specs.Layout as layout
+use Rattle.record.specs.Rules.{allAccepted}
 use Rattle.stores.specs.Stores.{storeNumbers}
-use Rattle.alterations.specs.Fields.{setState, setAccepted, withCrc}
-use Rattle.changes.specs.NewRecord.{imageWith, unacceptedBelow, begunRecord}
+use Rattle.alterations.specs.Fields.{setActive, setPrevious, setState, setAccepted, withCrc}
+use Rattle.change_lists.specs.ChangeStores.{repairStores}
+use Rattle.verdicts.specs.Decide.{accepted, decide, gives}
+use Rattle.admission.specs.Rows.{repairTests, areaTests}
+use Rattle.changes.specs.NewRecord.{imageWith, unacceptedBelow, begunRecord, committedRecord, endedRecord, marked, acceptedRecord, exchangedRecord}
+use Rattle.changes.specs.Changed.{Call, begin, commit, end, cancel, accept, selectPrevious, changeOf, changedBy, newRecord}
+use Rattle.committed_set.specs.Set.{missing, stagedFits}
 use Rattle.session.specs.declared.Session.{Session}
-use Rattle.session.specs.declared.Session.the-variants.{Regular, Staging, Trial, Fallback}
-use Rattle.session.specs.Outcome.{Decision, accepted}
-use Rattle.session.specs.Calls as calls
-use Rattle.session.specs.Calls.{Result, held, stagingFits, admission, ifAdmitted, called, ofImage, changedTo, missing}
-use Rattle.repair.specs.Repair.{repaired, listed}
+use Rattle.session.specs.declared.Session.the-variants.{Regular, Staging, Trial}
+use Rattle.session.specs.Calls.{stagingTest, commonTests, ownTests, tests, changedTo, following, answered}
+use Rattle.repair.specs.Repair.{repairedBy, repaired}
 use Rattle.power_cuts.specs.Area.{afterCut}
-use Rattle.power_cuts.specs.Format as format
-use Rattle.power_cuts.specs.Version2.{version2}
-use Rattle.power_cuts.proofs.Sample.{sampleRecord, sampleArea, sample-long, sample-area-bytes, sample-both}
-use Rattle.demand3.specs.Demand3.{begin, commit, end, cancel, accept, selectPrevious, resultOf, Accepted, listOf, newRecord, BothHold, afterList, pairLimit, Survives}
-use Rattle.demand3.proofs.Events.{accepted-is}
+use Rattle.record_cuts.specs.Cuts.{BothHold}
+use Rattle.record_cuts.proofs.Cuts.{record-cuts}
+use Rattle.record_cuts.proofs.Sample.{sampleRecord, sampleArea, sample-long, sample-area-bytes, sample-both}
+use Rattle.accepted_calls.specs.AcceptedCalls.{Accepted}
+use Rattle.history.specs.History.{listOf, run}
+use Rattle.demand3.specs.Demand3.{cutCall, pairLimit, Survives}
+use Rattle.demand3.proofs.Lists.{Good, is-sound}
 use Rattle.demand3.proofs.Demand3.{demand3}
 
--- ---- how a call is accepted
-equal-of : (a r : List ℕ) → BothHold a r → soundAndEqual a ≡ true
-unfolding soundAndEqual recordsEqual
-equal-of a r h =
-    ap (λ (t : Bool). (t && soundCopy (copy1 a)) && same (recordOf (copy0 a)) (recordOf (copy1 a))) (h .sound0)
-    ∙ ap (λ (t : Bool). t && same (recordOf (copy0 a)) (recordOf (copy1 a))) (h .sound1)
-    ∙ ap (λ (l : List ℕ). same l (recordOf (copy1 a))) (h .is0)
-    ∙ ap (same r) (h .is1)
-    ∙ same-refl r
-
-module _ (q : Session) (a s : List ℕ) (long : length a ≡ areaSize) (room : storeNumbers ≤ length s) (r : List ℕ) (holds : BothHold a r)
-    (fits : stagingFits q r ≡ true) where
-  admits : admission q a (length s) ≡ accepted
-  unfolding admission
-  admits =
-      rw (
-        eq-eqb (length a) areaSize long,
-        le-ltb (length s) storeNumbers room,
-        holds .sound0,
-        equal-of a r holds,
-        holds .is0,
-        fits,
-      )
-
-  takes : (x : Result) → Accepted x → Accepted (called q a s x)
-  unfolding called ifAdmitted
-  takes x e = subst (λ (d : Decision). Accepted (ifAdmitted d q s x)) (sym admits) e
-
--- ---- the two records
 abbrev pub slice : List ℕ
 slice = replicate storeNumbers 0
 
@@ -72,114 +49,175 @@ slice-long = omega (arith, length-replicate {A = ℕ} storeNumbers 0)
 abbrev pub zeroGuid : List ℕ
 zeroGuid = replicate 16 0
 
--- the record that Begin makes: bank 1 is 255, its image unaccepted
+-- ---- an area with the record r in both copies
+record Holding (a r : List ℕ) : Type 0 where
+  long : length a ≡ areaSize
+  is-bytes : Bytes a
+  holds : BothHold a r
+
+-- the call is accepted there, and lists a store
+pub record Taken (k : Call) (q : Session) (a : List ℕ) : Type 0 where
+  pub taken : Accepted (answered k q a slice)
+  pub lists : listOf (answered k q a slice) ≢ []
+
+-- what all of its stores leave
+unfoldable pub after : (k : Call) (q : Session) (a : List ℕ) → List ℕ
+after k q a = afterCut a (listOf (answered k q a slice)) pairLimit
+
+module _ (k : Call) (q : Session) (a r : List ℕ) (h : Holding a r) (fits : stagingTest q r .0 ≡ false) (own : decide (ownTests k q r) ≡ accepted) where
+  takes : Accepted (answered k q a slice)
+  unfolding answered tests commonTests areaTests repairTests decide following changedTo
+  takes =
+      rw (
+        eq-eqb (length a) areaSize (h .long),
+        le-ltb (length slice) storeNumbers slice-long,
+        h .holds .sound0,
+        record-cuts .equal a r (h .holds),
+        h .holds .is0,
+        fits,
+        own,
+      )
+
+  survives : (n : ℕ) → Survives a r (newRecord k r) (listOf (answered k q a slice)) n (cutCall k q a slice n) []
+  survives n = rw (h .holds .is0) at (demand3 .change k q a slice n [] (h .is-bytes) takes)
+
+  -- a list of no store would leave the old record, which is not the new one
+  taken-with : r ≢ newRecord k r → Taken k q a
+  taken-with other =
+      record {
+        taken = takes;
+        lists = λ e. other (sym (survives 0 .first refl .is) ∙ survives 0 .last (omega (arith, ap length e)) .is);
+      }
+
+  cut-good : (n : ℕ) → Good (afterCut a (listOf (answered k q a slice)) n)
+  unfolding run
+  cut-good n =
+      let l = survives n .lasts tt in
+      let g : Good (cutCall k q a slice n .area) = record { long = l .long; bytes = l .bytes; one-sound = l .reads .one-sound } in
+      rw (survives n .left) at g
+
+  leaves : Holding (after k q a) (newRecord k r)
+  unfolding after
+  leaves =
+      let g : Good (afterCut a (listOf (answered k q a slice)) pairLimit) = cut-good pairLimit in
+      record { long = g .long; is-bytes = g .bytes; holds = survives pairLimit .after-all (survives pairLimit .rules .few) }
+
+-- ---- the records: that which Begin makes, with bank 1 255 and its image unaccepted; and that which End makes of it,
+-- with bank 1 254 and active
 unfoldable stagedRecord : List ℕ
 stagedRecord = begunRecord sampleRecord
 
--- the image is found in both, bank 1 can be selected in the first, and in the second it can be committed and ended
-image-sample : ltb (imageWith zeroGuid sampleRecord) (imageCount sampleRecord) ≡ true
-unfolding sampleRecord imageWith least guid same le
-image-sample = refl
+unfoldable trialRecord : List ℕ
+trialRecord = endedRecord stagedRecord
 
-previous-sample : eqb (state sampleRecord (previous sampleRecord)) acceptedBank ≡ true
-unfolding sampleRecord le
-previous-sample = refl
+-- a field that differs: 252 before and 255 after, or 0 before and 1 after
+differ : (f : List ℕ → ℕ) (r new : List ℕ) (x y : ℕ) → f r ≡ x → f new ≡ y → x ≢ y → r ≢ new
+differ f r new x y e g h z = h (sym e ∙ ap f z ∙ g)
 
-image-staged : ltb (imageWith zeroGuid stagedRecord) (imageCount stagedRecord) ≡ true
-unfolding stagedRecord begunRecord unacceptedBelow setState setAccepted withCrc put bytes sampleRecord imageWith least guid same le
-image-staged = refl
+module _ (a : List ℕ) (h : Holding a sampleRecord) where
+  begins : Taken begin Regular a
+  unfolding ownTests decide newRecord changeOf changedBy begunRecord unacceptedBelow setState setAccepted withCrc put bytes sampleRecord le
+  begins =
+      taken-with begin Regular a sampleRecord h refl refl
+      (differ (λ r. state r 1) sampleRecord (newRecord begin sampleRecord) 252 255 refl refl (λ e. omega arith))
 
-fits-staged : (set : ℕ) → ltb set 2 ≡ true → stagingFits (Staging 1 set) stagedRecord ≡ true
-unfolding stagingFits calls.stagedFits stagedRecord begunRecord unacceptedBelow setState setAccepted withCrc put bytes sampleRecord le
-fits-staged set h = h
+  staged : Holding (after begin Regular a) stagedRecord
+  unfolding ownTests decide newRecord changeOf changedBy stagedRecord
+  staged = leaves begin Regular a sampleRecord h refl refl
 
-missing-staged : eqb (missing 1 stagedRecord) 0 ≡ true
-unfolding missing onesIn stagedRecord begunRecord unacceptedBelow setState setAccepted withCrc put bytes sampleRecord le
-missing-staged = refl
+module _ (a : List ℕ) (h : Holding a stagedRecord) where
+  fits-staged : stagingTest (Staging 1 0) stagedRecord .0 ≡ false
+  unfolding stagedFits stagedRecord begunRecord unacceptedBelow setState setAccepted withCrc put bytes sampleRecord le
+  fits-staged = refl
 
--- ---- the calls on an area that holds the first record, and on one that holds the second
-module _ (a : List ℕ) (long : length a ≡ areaSize) where
-  module _ (holds : BothHold a sampleRecord) where
-    begins : Accepted (resultOf begin Regular a slice)
-    unfolding resultOf calls.beginCall calls.beginLine changedTo stagingFits
-    begins = takes Regular a slice long slice-long sampleRecord holds refl (calls.beginLine Regular a slice) refl
+  fits-full : stagingTest (Staging 1 1) stagedRecord .0 ≡ false
+  unfolding stagedFits stagedRecord begunRecord unacceptedBelow setState setAccepted withCrc put bytes sampleRecord le
+  fits-full = refl
 
-    accepts : Accepted (resultOf (accept zeroGuid) Trial a slice)
-    unfolding resultOf calls.acceptCall calls.acceptLine ofImage changedTo stagingFits
-    accepts =
-        takes Trial a slice long slice-long sampleRecord holds refl (calls.acceptLine Trial zeroGuid a slice)
-        (rw (holds .is0, image-sample))
+  none-missing : decide (ownTests end (Staging 1 1) stagedRecord) ≡ accepted
+  unfolding ownTests decide missing onesIn stagedRecord begunRecord unacceptedBelow setState setAccepted withCrc put bytes sampleRecord le
+  none-missing = refl
 
-    selects : Accepted (resultOf selectPrevious Fallback a slice)
-    unfolding resultOf calls.selectPreviousCall calls.selectPreviousLine calls.selected changedTo stagingFits
-    selects =
-        takes Fallback a slice long slice-long sampleRecord holds refl (calls.selectPreviousLine Fallback a slice)
-        (rw (holds .is0, previous-sample))
+  commits : Taken (commit zeroGuid 0) (Staging 1 0) a
+  unfolding ownTests decide newRecord changeOf changedBy imageWith least guid same committedRecord stagedRecord begunRecord unacceptedBelow setState
+      setAccepted withCrc put bytes sampleRecord le
+  commits =
+      taken-with (commit zeroGuid 0) (Staging 1 0) a stagedRecord h fits-staged refl
+      (differ (λ r. layout.accepted r 0 1) stagedRecord (newRecord (commit zeroGuid 0) stagedRecord) 0 1 refl refl (λ e. omega arith))
 
-  module _ (holds : BothHold a stagedRecord) where
-    commits : Accepted (resultOf (commit zeroGuid 0) (Staging 1 0) a slice)
-    unfolding resultOf calls.commitCall calls.commitLine ofImage changedTo
-    commits =
-        takes (Staging 1 0) a slice long slice-long stagedRecord holds (fits-staged 0 refl) (calls.commitLine (Staging 1 0) zeroGuid 0 a slice)
-        (rw (holds .is0, image-staged))
+  cancels : Accepted (answered cancel (Staging 1 0) a slice)
+  unfolding ownTests decide
+  cancels = takes cancel (Staging 1 0) a stagedRecord h fits-staged refl
 
-    ends : Accepted (resultOf end (Staging 1 1) a slice)
-    unfolding resultOf calls.endCall calls.endLine changedTo
-    ends =
-        takes (Staging 1 1) a slice long slice-long stagedRecord holds (fits-staged 1 refl) (calls.endLine (Staging 1 1) a slice)
-        (rw (holds .is0, missing-staged))
+  ends : Taken end (Staging 1 1) a
+  unfolding newRecord changeOf changedBy endedRecord allAccepted below setActive setPrevious stagedRecord begunRecord unacceptedBelow setState
+      setAccepted withCrc put bytes sampleRecord le
+  ends =
+      taken-with end (Staging 1 1) a stagedRecord h fits-full none-missing
+      (differ (λ r. active r) stagedRecord (newRecord end stagedRecord) 0 1 refl refl (λ e. omega arith))
 
-    cancels : Accepted (resultOf cancel (Staging 1 0) a slice)
-    unfolding resultOf calls.cancelCall calls.cancelLine changedTo
-    cancels = takes (Staging 1 0) a slice long slice-long stagedRecord holds (fits-staged 0 refl) (calls.cancelLine (Staging 1 0) a slice) refl
+  tried : Holding (after end (Staging 1 1) a) trialRecord
+  unfolding newRecord changeOf changedBy trialRecord
+  tried = leaves end (Staging 1 1) a stagedRecord h fits-full none-missing
+
+module _ (a : List ℕ) (h : Holding a trialRecord) where
+  accepts : Taken (accept zeroGuid) Trial a
+  unfolding ownTests decide newRecord changeOf changedBy imageWith least guid same acceptedRecord marked trialRecord endedRecord allAccepted below
+      setActive setPrevious stagedRecord begunRecord unacceptedBelow setState setAccepted withCrc put bytes sampleRecord le
+  accepts =
+      taken-with (accept zeroGuid) Trial a trialRecord h refl refl
+      (differ (λ r. layout.accepted r 0 1) trialRecord (newRecord (accept zeroGuid) trialRecord) 0 1 refl refl (λ e. omega arith))
+
+  selects : Taken selectPrevious Trial a
+  unfolding ownTests decide newRecord changeOf changedBy exchangedRecord trialRecord endedRecord allAccepted below
+      setActive setPrevious stagedRecord begunRecord unacceptedBelow setState setAccepted withCrc put bytes sampleRecord le
+  selects =
+      taken-with selectPrevious Trial a trialRecord h refl refl
+      (differ (λ r. active r) trialRecord (newRecord selectPrevious trialRecord) 1 0 refl refl (λ e. omega arith))
 
 -- ---- there are such areas
-sample-holds : BothHold sampleArea sampleRecord
-unfolding format.soundCopy format.recordOf version2 soundCopy recordOf
-sample-holds = record { sound0 = sample-both .sound0; is0 = sample-both .is0; sound1 = sample-both .sound1; is1 = sample-both .is1 }
+abbrev pub stagedArea : List ℕ
+stagedArea = after begin Regular sampleArea
+
+abbrev pub trialArea : List ℕ
+trialArea = after end (Staging 1 1) stagedArea
+
+sample-holding : Holding sampleArea sampleRecord
+sample-holding = record { long = sample-long; is-bytes = sample-area-bytes; holds = sample-both }
+
+staged-holding : Holding stagedArea stagedRecord
+staged-holding = staged sampleArea sample-holding
 
 -- that Begin cut after n of its stores
 unfoldable pub cutBegin : ℕ → List ℕ
-cutBegin n = afterCut sampleArea (listOf (resultOf begin Regular sampleArea slice)) n
+cutBegin n = afterCut sampleArea (listOf (answered begin Regular sampleArea slice)) n
 
-begun : (n : ℕ)
-    → Survives sampleArea (held sampleArea) (newRecord begin (held sampleArea)) (listOf (resultOf begin Regular sampleArea slice)) n []
-begun n = demand3 .change begin Regular sampleArea slice n [] sample-area-bytes (begins sampleArea sample-long sample-holds)
+begin-good : (n : ℕ) → Good (cutBegin n)
+unfolding cutBegin ownTests decide
+begin-good n = cut-good begin Regular sampleArea sampleRecord sample-holding refl refl n
 
-cut-long : (n : ℕ) → length (cutBegin n) ≡ areaSize
-unfolding cutBegin afterList
-cut-long n = begun n .lasts .long
-
--- with all of them done
-abbrev pub stagedArea : List ℕ
-stagedArea = cutBegin pairLimit
-
-staged-holds : BothHold stagedArea stagedRecord
-unfolding cutBegin newRecord stagedRecord
-staged-holds = rw (sample-holds .is0) at (begun pairLimit .after-all (begun pairLimit .few))
-
-repairs : (n : ℕ) → Accepted (repaired (cutBegin n) slice)
-unfolding cutBegin afterList listed
-repairs n = ap (λ (x : Result). x .0 .1) (accepted-is (cutBegin n) slice (cut-long n) (begun n .lasts .reads .one-sound) slice-long)
+mends : (a s : List ℕ) → Good a → storeNumbers ≤ length s → repaired a s .0 ≡ gives (length (repairStores a))
+unfolding repaired repairTests decide repairedBy
+mends a s g h = rw (eq-eqb (length a) areaSize (g .long), le-ltb (length s) storeNumbers h, is-sound a (g .one-sound))
 
 -- each call is accepted somewhere, and a repair after that Begin wherever it is cut
 pub record EachAccepted : Type 0 where
-  pub begin-taken : Accepted (resultOf begin Regular sampleArea slice)
-  pub commit-taken : Accepted (resultOf (commit zeroGuid 0) (Staging 1 0) stagedArea slice)
-  pub end-taken : Accepted (resultOf end (Staging 1 1) stagedArea slice)
-  pub cancel-taken : Accepted (resultOf cancel (Staging 1 0) stagedArea slice)
-  pub accept-taken : Accepted (resultOf (accept zeroGuid) Trial sampleArea slice)
-  pub select-taken : Accepted (resultOf selectPrevious Fallback sampleArea slice)
-  pub repair-taken : (n : ℕ) → Accepted (repaired (cutBegin n) slice)
+  pub begin-taken : Taken begin Regular sampleArea
+  pub commit-taken : Taken (commit zeroGuid 0) (Staging 1 0) stagedArea
+  pub cancel-taken : Accepted (answered cancel (Staging 1 0) stagedArea slice)
+  pub end-taken : Taken end (Staging 1 1) stagedArea
+  pub accept-taken : Taken (accept zeroGuid) Trial trialArea
+  pub select-taken : Taken selectPrevious Trial trialArea
+  pub repair-taken : (n : ℕ) → repaired (cutBegin n) slice .0 ≡ gives (length (repairStores (cutBegin n)))
 
 pub each-accepted : EachAccepted
 each-accepted =
     record {
-      begin-taken = begins sampleArea sample-long sample-holds;
-      commit-taken = commits stagedArea (cut-long pairLimit) staged-holds;
-      end-taken = ends stagedArea (cut-long pairLimit) staged-holds;
-      cancel-taken = cancels stagedArea (cut-long pairLimit) staged-holds;
-      accept-taken = accepts sampleArea sample-long sample-holds;
-      select-taken = selects sampleArea sample-long sample-holds;
-      repair-taken = repairs;
+      begin-taken = begins sampleArea sample-holding;
+      commit-taken = commits stagedArea staged-holding;
+      cancel-taken = cancels stagedArea staged-holding;
+      end-taken = ends stagedArea staged-holding;
+      accept-taken = accepts trialArea (tried stagedArea staged-holding);
+      select-taken = selects trialArea (tried stagedArea staged-holding);
+      repair-taken = λ n. mends (cutBegin n) slice (begin-good n) slice-long;
     }

@@ -1,132 +1,113 @@
--- Demand 3 as one statement over the change, its cut and the whole list (document 01, "Power cuts", sentence by sentence). It speaks of what the
--- clauses of the six calls, of repair and of start-up say that these answer, and of the numbers that stand in the store slice at exit. a is the
--- bytes of an area, s the numbers of a store slice, q a session, r the bytes of a record, ss a list of stores, n how many of them are done
--- before the cut, es a list of start-ups and repairs. Assumes nothing.
-use Prim.Native.Nat.{ℕ, zero, suc, _*_, _/_, _≤_}
+-- Demand 3 as one statement over the change, its cut and the whole list (document 01, "Power cuts", sentence by
+-- sentence). It speaks of what the clauses of the six calls, of repair and of start-up say that these answer, of the
+-- numbers that stand in the store slice at exit, and of one history (crates/history). w is a world, a the bytes of an
+-- area, s the numbers of a store slice, q a session, r the bytes of a record, ss a list of stores, n how many of them
+-- are done before the cut, es a list of start-ups and repairs. Assumes nothing.
+use Prim.Native.Nat.{ℕ, _*_, _/_, _≤_}
 use mathlib.Core.Path.{_≡_}
 use mathlib.Core.Logic.{_≢_, _⊎_}
 use mathlib.Core.Bool.{true}
+use mathlib.Core.Option.{none, some}
 use mathlib.Core.List.{List, [], _∷_, _++_}
-use lib.ListN.{length, drop, getD}
+use lib.ListN.{length}
 use Rattle.fields.specs.Number.{Bytes}
-use Rattle.record.specs.Layout.{areaSize, recordOf, copy0, copy1}
-use Rattle.record.specs.Rules.{sound, soundCopy}
+use Rattle.record.specs.Layout.{areaSize, copy0, copy1}
+use Rattle.record.specs.Rules.{sound}
 use Rattle.copies.specs.Copies.{sourceOf, recordRead, soundAndEqual}
 use Rattle.copies.specs.declared.Source.the-variants.{Neither}
 use Rattle.stores.specs.Stores.{Store, storeNumbers, withList}
-use Rattle.changes.specs.NewRecord.{imageWith, begunRecord, committedRecord, endedRecord, acceptedRecord, exchangedRecord}
+use Rattle.verdicts.specs.Decide.{Reply, gives, refuses}
+use Rattle.changes.specs.Changed.{Call, newRecord}
 use Rattle.session.specs.declared.Session.{Session}
-use Rattle.session.specs.Outcome.{Decision, accepted, refusal}
-use Rattle.session.specs.Calls.{Result, held, beginCall, commitCall, endCall, cancelCall, acceptCall, selectPreviousCall}
-use Rattle.start_up.specs.StartUp.{startUp}
+use Rattle.session.specs.Calls.{held, answered}
+use Rattle.start_up.specs.StartUp.{startUp, startedFrom}
 use Rattle.repair.specs.Repair.{repaired}
-use Rattle.power_cuts.specs.Area.{afterStores, afterCut}
+use Rattle.power_cuts.specs.Area.{afterStores, afterCut, Each}
 use Rattle.power_cuts.specs.Format.{over}
-use Rattle.power_cuts.specs.Version2.{Reads}
-use Rattle.power_cuts.specs.Offsets.{Each, Placed, InEither, InWord, otherAt}
+use Rattle.record_cuts.specs.Cuts.{BothHold}
+use Rattle.record_cuts.specs.Offsets.{Placed, InEither, InWord, otherAt}
 use Rattle.kept_sound.specs.Fields.{CallsMake}
+use Rattle.accepted_calls.specs.AcceptedCalls.{Accepted}
+use Rattle.history.specs.HistoryLaws.{event}
+use Rattle.history.specs.History.{World, Act, startsUp, repairs, calls, Fate, whole, cut, Event, pairs, listOf, step, run}
 
 -- ---- "A change is one accepted Begin, Commit, End, Cancel, Accept or Select previous."
--- a call and what it is given beside the session, the area and the slice: g the bytes of a type GUID
-pub data Call : Type 0 where
-  begin : Call
-  commit : (g : List ℕ) (request : ℕ) → Call
-  end : Call
-  cancel : Call
-  accept : (g : List ℕ) → Call
-  selectPrevious : Call
+-- that call of the session q, on the area a, with the slice s lent, cut after n of its stores: the world that it leaves
+abbrev pub cutCall : (k : Call) (q : Session) (a s : List ℕ) (n : ℕ) → World
+cutCall k q a s n = step (record { area = a; session = some q }) (record { act = calls k; slice = s; fate = cut n })
 
--- what the call answers, and the store slice at exit: as the clause of its entry says
-unfoldable pub resultOf : Call → Session → (a s : List ℕ) → Result
-resultOf begin q a s = beginCall q a s
-resultOf (commit g request) q a s = commitCall q g request a s
-resultOf end q a s = endCall q a s
-resultOf cancel q a s = cancelCall q a s
-resultOf (accept g) q a s = acceptCall q g a s
-resultOf selectPrevious q a s = selectPreviousCall q a s
+-- the list is whole: the slice s that was lent holds all the pairs that the answer counts, and "Numbers past the list
+-- stay." out is the slice at exit (`counted` is so by `pairs` already; what shuts an invented count out is `inside`,
+-- `rest` and `area` of `Survives` below)
+pub record Listed (s : List ℕ) (count : ℕ) (out : List ℕ) : Type 0 where
+  pub counted : length (pairs count out) ≡ count
+  pub inside : 2 * length (pairs count out) ≤ length s
+  pub rest : out ≡ withList s (pairs count out)
 
--- the answer is no refusal
-abbrev pub Accepted : Result → Type 0
-Accepted x = x .0 .1 ≡ accepted
+-- ---- "What start-up reads is the record read, as defined above, .. for any booted bank it answers the session, or
+-- refusal 28, that this page gives for that record."
+pub record Reads (a r : List ℕ) : Type 0 where
+  pub one-sound : sourceOf a ≢ Neither
+  pub is : recordRead a ≡ r
+  pub answers : (booted : ℕ) → startUp a booted ≡ startedFrom r booted
 
--- the first n pairs of a slice of numbers: offset, word, offset, word
-unfoldable pub pairs : ℕ → List ℕ → List Store
-pairs zero s = []
-pairs (suc n) s = (getD s 0 0, getD s 1 0) ∷ pairs n (drop 2 s)
+-- ---- "A list in demand 3 holds start-ups with any booted bank and repairs with any store slice, in any order, those
+-- refused by 28 or 23 too." Each is whole or cut. "Each is given the area that the one before it left, and nobody else
+-- writes the area meanwhile. A start-up or a refused repair leaves the area as it was; an accepted repair leaves it cut
+-- after any n of its stores.": `run` of crates/history
+abbrev pub NoCall : Act → Type 0
+NoCall (startsUp booted) = Unit {0}
+NoCall repairs = Unit {0}
+NoCall (calls k) = ⊥
 
--- "a list of stores, each a pair (offset, word), in a lent slice": as many pairs as the answer counts, from the slice at exit
-unfoldable pub listOf : Result → List Store
-listOf x = pairs (x .0 .2) (x .1)
+abbrev pub Quiet : List Event → Type 0
+Quiet [] = Unit {0}
+Quiet (e ∷ es) = NoCall (e .act) × Quiet es
 
--- the list is whole: the slice s that was lent holds all the pairs that the answer x counts, and "Numbers past the list stay." (`counted` is so by
--- `listOf` already; what shuts an invented count out is `inside`, `rest` and `area` of `Survives` below)
-pub record Listed (s : List ℕ) (x : Result) : Type 0 where
-  pub counted : length (listOf x) ≡ x .0 .2
-  pub inside : 2 * length (listOf x) ≤ length s
-  pub rest : x .1 ≡ withList s (listOf x)
+-- "It has finished when n is all of them, so at once where it lists none.": an accepted repair, by its answer and its
+-- fate
+abbrev pub AllDone : Reply ℕ → Fate → Type 0
+AllDone (gives count) whole = Unit {0}
+AllDone (gives count) (cut n) = count ≤ n
+AllDone (refuses number values) fate = ⊥
 
--- ---- "The old record is the one that both copies hold before it."
--- both copies of a are sound and hold the record r
-pub record BothHold (a r : List ℕ) : Type 0 where
-  pub sound0 : soundCopy (copy0 a) ≡ true
-  pub is0 : recordOf (copy0 a) ≡ r
-  pub sound1 : soundCopy (copy1 a) ≡ true
-  pub is1 : recordOf (copy1 a) ≡ r
+abbrev pub FinishesAs : Act → Reply ℕ → Fate → Type 0
+FinishesAs (startsUp booted) x fate = ⊥
+FinishesAs repairs x fate = AllDone x fate
+FinishesAs (calls k) x fate = ⊥
 
--- ---- "The new one is the old with what the call's line above alters, its CRC worked anew."
--- What each of these records says field by field, and that every other byte but the CRC's stays, is `makes` of `Demand3` below (crates/kept_sound)
--- "Cancel itself changes nothing in the record"
-unfoldable pub newRecord : Call → (r : List ℕ) → List ℕ
-newRecord begin r = begunRecord r
-newRecord (commit g request) r = committedRecord (imageWith g r) request r
-newRecord end r = endedRecord r
-newRecord cancel r = r
-newRecord (accept g) r = acceptedRecord (imageWith g r) r
-newRecord selectPrevious r = exchangedRecord r
-
--- ---- "What start-up reads is the record read, as defined above"
--- ---- "A list in demand 3 holds start-ups with any booted bank and repairs with any store slice, in any order, those refused by 28 or 23 too."
--- a repair is cut after n of its stores
-pub data Event : Type 0 where
-  startUpWith : (booted : ℕ) → Event
-  repairWith : (s : List ℕ) (n : ℕ) → Event
-
--- "A start-up or a refused repair leaves the area as it was; an accepted repair leaves it cut after any n of its stores."
-unfoldable pub afterDecision : Decision → List ℕ → List Store → ℕ → List ℕ
-afterDecision accepted a ss n = afterCut a ss n
-afterDecision (refusal number values) a ss n = a
-
-unfoldable pub afterEvent : List ℕ → Event → List ℕ
-afterEvent a (startUpWith booted) = a
-afterEvent a (repairWith s n) = afterDecision (repaired a s .0 .1) a (listOf (repaired a s)) n
-
--- "Each is given the area that the one before it left, and nobody else writes the area meanwhile."
-unfoldable pub afterList : List ℕ → List Event → List ℕ
-afterList a [] = a
-afterList a (e ∷ es) = afterList (afterEvent a e) es
-
--- "It has finished when n is all of them, so at once where it lists none."
-abbrev pub Finishes : List ℕ → Event → Type 0
-Finishes a (startUpWith booted) = ⊥
-Finishes a (repairWith s n) = Accepted (repaired a s) × (length (listOf (repaired a s)) ≤ n)
+abbrev pub Finishes : World → Event → Type 0
+Finishes w e = FinishesAs (e .act) (repaired (w .area) (e .slice) .0) (e .fate)
 
 -- a repair in the list has finished
-abbrev pub Finished : List ℕ → List Event → Type 0
-Finished a [] = ⊥
-Finished a (e ∷ es) = Finishes a e ⊎ Finished (afterEvent a e) es
+abbrev pub Finished : World → List Event → Type 0
+Finished w [] = ⊥
+Finished w (e ∷ es) = Finishes w e ⊎ Finished (step w e) es
 
--- ---- "For every list of start-ups and repairs from there": what the list leaves of the area a
+-- such lists there are, of any start-ups and repairs, and a repair in them finishes as soon as all its stores are done
+-- (`quiet-lists`, proofs/Lists.antt)
+pub record QuietLists : Type 0 where
+  pub empty : Quiet []
+  pub start-up : (booted : ℕ) (s : List ℕ) (fate : Fate) (es : List Event) → Quiet es → Quiet (event (startsUp booted) s fate ∷ es)
+  pub repair : (s : List ℕ) (fate : Fate) (es : List Event) → Quiet es → Quiet (event repairs s fate ∷ es)
+  pub finished : (w : World) (s : List ℕ) (count n : ℕ) (es : List Event) → repaired (w .area) s .0 ≡ gives count → count ≤ n
+      → Finished w (event repairs s (cut n) ∷ es)
+  pub finished-whole : (w : World) (s : List ℕ) (count : ℕ) (es : List Event) → repaired (w .area) s .0 ≡ gives count
+      → Finished w (event repairs s whole ∷ es)
+  pub later : (w : World) (e : Event) (es : List Event) → Finished (step w e) es → Finished w (e ∷ es)
+
+-- ---- "For every list of start-ups and repairs from there": what the list leaves of the world w
 --     long, bytes   an area still, so that more may follow
 --     reads         "start-up after the list reads the same record as before it"
 --     answers       and answers the same, session or refusal, for any booted bank
---     both-hold     "Once a repair in the list has finished, both copies are sound and equal from then on": the list is any list, so this holds
---                   after each event of a longer one
-pub record Lasts (a : List ℕ) (es : List Event) : Type 0 where
-  pub long : length (afterList a es) ≡ areaSize
-  pub bytes : Bytes (afterList a es)
-  pub reads : Reads (afterList a es) (recordRead a)
-  pub answers : (booted : ℕ) → startUp (afterList a es) booted ≡ startUp a booted
-  pub both-hold : Finished a es → BothHold (afterList a es) (recordRead a)
+--     both-hold     "Once a repair in the list has finished, both copies are sound and equal from then on": the list is
+--                   any list, so this holds after each event of a longer one
+pub record Lasts (w : World) (es : List Event) : Type 0 where
+  pub long : length (run w es .area) ≡ areaSize
+  pub bytes : Bytes (run w es .area)
+  pub reads : Reads (run w es .area) (recordRead (w .area))
+  pub answers : (booted : ℕ) → startUp (run w es .area) booted ≡ startUp (w .area) booted
+  pub both-hold : Finished w es → BothHold (run w es .area) (recordRead (w .area))
 
 -- ---- the rules on a list
 -- "offsets are multiples of 4 inside one of the two record ranges, old or new"
@@ -137,17 +118,28 @@ InRange old new store = InEither (length old) store ⊎ InEither (length new) st
 abbrev pub pairLimit : ℕ
 pairLimit = storeNumbers / 2
 
--- ---- a change from old to new with the stores ss, cut after n of them, and any list from there on
---     long, holds             it was given an area whose two copies are sound and hold the old record
+-- each store of the list lies where P says and is one word, and there are no more of them than that
+pub record Ruled (P : Store → Type 0) (ss : List Store) : Type 0 where
+  pub placed : Each P ss
+  pub words : Each InWord ss
+  pub few : length ss ≤ pairLimit
+
+-- ---- a change from old to new with the stores ss, cut after n of them: w is the world that it leaves, and es any list
+-- from there on
+--     left                    its area is "the area which that call was given with the first n pairs done in list
+--                             order"; the session is lost
+--     long, holds             the call was given an area whose two copies are sound and hold the old record
 --     new-sound, new-bytes    the new record is one that can be read: every accepted call keeps the record sound
 --     either                  "Start-up then reads exactly the old record or exactly the new"
 --     first                   "the old after no store"
 --     last                    "the new after all"
---     after-all, area         "After all stores both copies hold the new record and every other byte of the area is as before."
+--     after-all, area         "After all stores both copies hold the new record and every other byte of the area is as
+--                             before."
 --     later                   "once the new is read, every later cut of that change reads it too"
 --     lasts                   "Go on from what that cut left"
---     placed, words, few      the rules on the list; each store is one word
-pub record Survives (a old new : List ℕ) (ss : List Store) (n : ℕ) (es : List Event) : Type 0 where
+--     rules                   those on the list
+pub record Survives (a old new : List ℕ) (ss : List Store) (n : ℕ) (w : World) (es : List Event) : Type 0 where
+  pub left : w ≡ record { area = afterCut a ss n; session = none }
   pub long : length a ≡ areaSize
   pub holds : BothHold a old
   pub new-sound : sound new ≡ true
@@ -158,39 +150,38 @@ pub record Survives (a old new : List ℕ) (ss : List Store) (n : ℕ) (es : Lis
   pub after-all : length ss ≤ n → BothHold (afterCut a ss n) new
   pub area : length ss ≤ n → afterCut a ss n ≡ over new (copy0 a) ++ over new (copy1 a)
   pub later : (m : ℕ) → n ≤ m → Reads (afterCut a ss n) new → Reads (afterCut a ss m) new
-  pub lasts : Lasts (afterCut a ss n) es
-  pub placed : Each (InRange old new) ss
-  pub words : Each InWord ss
-  pub few : length ss ≤ pairLimit
+  pub lasts : Quiet es → Lasts w es
+  pub rules : Ruled (InRange old new) ss
 
--- ---- a repair of a with the stores ss, all of them done: "none if the copies are sound and equal, else the record read goes into the other
--- copy"; "Repair gives such a list too"
+-- ---- a repair of a with the stores ss, all of them done: "none if the copies are sound and equal, else the record
+-- read goes into the other copy"; "Repair gives such a list too"
 pub record Repairs (a : List ℕ) (ss : List Store) : Type 0 where
-  pub long : length a ≡ areaSize
-  pub one-sound : sourceOf a ≢ Neither
+  pub is-area : length a ≡ areaSize
+  pub has-sound : sourceOf a ≢ Neither
   pub none : soundAndEqual a ≡ true → ss ≡ []
   pub after-all : BothHold (afterStores a ss) (recordRead a)
   pub area : afterStores a ss ≡ over (recordRead a) (copy0 a) ++ over (recordRead a) (copy1 a)
-  pub placed : Each (Placed (otherAt (sourceOf a)) (length (recordRead a))) ss
-  pub words : Each InWord ss
-  pub few : length ss ≤ pairLimit
+  pub rules : Ruled (Placed (otherAt (sourceOf a)) (length (recordRead a))) ss
 
--- ---- Demand 3: "Start from two sound, equal copies of the record, take any accepted change and cut it after any number of its stores"; "Go on
--- from what that cut left, or from any other area with a sound copy." That a is bytes is all that a change asks of it: that
--- it is an area with two sound and equal copies is what the calls are refused for otherwise. No clause has a premise about the checksum.
--- That calls and repairs are accepted at all is for their own clauses to say; proofs/Sample.antt has one of each
---     makes            the new record has the old one's fields but for what the call's line alters, and the old one's bytes elsewhere but for the
---                      CRC's, which its soundness fixes
+-- ---- Demand 3: "Start from two sound, equal copies of the record, take any accepted change and cut it after any
+-- number of its stores"; "Go on from what that cut left, or from any other area with a sound copy." That a is bytes is
+-- all that a change asks of it: that it is an area with two sound and equal copies is what the calls are refused for
+-- otherwise. No clause has a premise about the checksum. That calls and repairs are accepted at all is for their own
+-- clauses to say; proofs/Sample.antt has one of each
+--     makes            the new record has the old one's fields but for what the call's line alters, and the old one's
+--                      bytes elsewhere but for the CRC's, which its soundness fixes
 --     change           one change, its cut, and the whole list
 --     change-listed    the stores of a change are those that its answer counts, in the slice that was lent
---     anywhere         any other area with a sound copy
+--     anywhere         any other area with a sound copy, with any session at hand or none
 --     repair           an accepted repair with all its stores done
 --     repair-listed    its stores are those that its answer counts, in the slice that was lent
 pub record Demand3 : Type 0 where
   pub makes : CallsMake
-  pub change : (k : Call) (q : Session) (a s : List ℕ) (n : ℕ) (es : List Event) → Bytes a → Accepted (resultOf k q a s)
-      → Survives a (held a) (newRecord k (held a)) (listOf (resultOf k q a s)) n es
-  pub change-listed : (k : Call) (q : Session) (a s : List ℕ) → Bytes a → Accepted (resultOf k q a s) → Listed s (resultOf k q a s)
-  pub anywhere : (a : List ℕ) (es : List Event) → length a ≡ areaSize → Bytes a → sourceOf a ≢ Neither → Lasts a es
-  pub repair : (a s : List ℕ) → Bytes a → Accepted (repaired a s) → Repairs a (listOf (repaired a s))
-  pub repair-listed : (a s : List ℕ) → Accepted (repaired a s) → Listed s (repaired a s)
+  pub change : (k : Call) (q : Session) (a s : List ℕ) (n : ℕ) (es : List Event) → Bytes a → Accepted (answered k q a s)
+      → Survives a (held a) (newRecord k (held a)) (listOf (answered k q a s)) n (cutCall k q a s n) es
+  pub change-listed : (k : Call) (q : Session) (a s : List ℕ) → Bytes a → Accepted (answered k q a s)
+      → Listed s (answered k q a s .0 .2) (answered k q a s .1)
+  pub anywhere : (w : World) (es : List Event) → length (w .area) ≡ areaSize → Bytes (w .area)
+      → sourceOf (w .area) ≢ Neither → Quiet es → Lasts w es
+  pub repair : (a s : List ℕ) (count : ℕ) → Bytes a → repaired a s .0 ≡ gives count → Repairs a (pairs count (repaired a s .1))
+  pub repair-listed : (a s : List ℕ) (count : ℕ) → repaired a s .0 ≡ gives count → Listed s count (repaired a s .1)

@@ -1,11 +1,13 @@
-// The product's main job on sample data. Standard input holds a memory window of 512 bytes, whose first byte stands at the address 0x1000, and
-// an area of 16,384 bytes behind it. The window's list of descriptors begins at 0x1000; the area's record has 2 banks and 1 image.
-// The capsule is gathered and taken apart; then the area is updated twice with the image that the capsule's payload names. A power cut
-// breaks the first update's End after 5 of its 12 stores, start-up still reads the old record, and repair makes both copies equal again; the second
-// update is done whole.
-// The file stdin is made by the script crates/demonstration/make (Python 3), from document 01's layouts: the capsule has one driver and one
-// payload of version 2, cut into three blocks that lie apart, with a jump behind the first descriptor; the payload's type GUID is that of
-// image 0; every image is accepted in both banks, bank 0 is active and bank 1 previous. The gate runs the program and not the script.
+// The product's main job on sample data. Standard input holds a memory window of 512 bytes, whose first byte stands at
+// the address 0x1000, and an area of 16,384 bytes behind it. The window's list of descriptors begins at 0x1000; the
+// area's record has 2 banks and 1 image.
+// The capsule is gathered and taken apart; then the area is updated twice with the image that the capsule's payload
+// names. A power cut breaks the first update's End after 5 of its 12 stores, start-up still reads the old record, and
+// repair makes both copies equal again; the second update is done whole.
+// The file stdin is made by the script crates/demonstration/make (Python 3), from document 01's layouts: the capsule
+// has one driver and one payload of version 2, cut into three blocks that lie apart, with a jump behind the first
+// descriptor; the payload's type GUID is that of image 0; every image is accepted in both banks, bank 0 is active and
+// bank 1 previous. The gate runs the program and not the script.
 mod parts;
 mod steps;
 

@@ -1,16 +1,23 @@
 // Gathering the capsule, and its parts line by line.
 use capsule_check::Verdict;
 use gather::Gathered;
-use record_shown::show_refusal;
-use test_scripts::text;
+use refusals::Refusal;
 
 // The address of the window's first byte, and of the first descriptor.
 const BASE: u64 = 0x1000;
+
+pub fn text(t: &[u8]) {
+    io::write_all(1, t);
+}
 
 // A number behind its name.
 pub fn named(name: &[u8], n: u64) {
     text(name);
     io::print_decimal(1, n);
+}
+
+pub fn show_refusal(why: Refusal) {
+    named(b"refused ", why.number() as u64);
 }
 
 fn wide(x: u8) -> u64 {
@@ -112,7 +119,8 @@ fn gathered(w: &mut [u8]) -> [u8; 16] {
     }
 }
 
-// Reads the window, gathers the capsule there and prints its parts. The answer is the payload's type GUID, or zeros where there is none.
+// Reads the window, gathers the capsule there and prints its parts. The answer is the payload's type GUID, or zeros
+// where there is none.
 pub fn read_capsule() -> [u8; 16] {
     let mut window = [0u8; 512];
     io::read_full(0, &mut window);

@@ -1,13 +1,12 @@
 // One step of an update: the call, its stores done, and the line that is printed of it.
 use crate::parts::named;
-use record_shown::show_name;
-use record_shown::show_refusal;
-use record_shown::show_start;
+use crate::parts::show_refusal;
+use crate::parts::text;
+use repair::Repaired;
 use session::Answer;
 use session::Session;
-use session::Verdict;
-use test_areas::apply;
-use test_scripts::text;
+use start_up::Started;
+use verdicts::Verdict;
 
 // The first n bytes.
 fn show_front(t: &[u8], n: usize) {
@@ -23,16 +22,73 @@ fn show_sheet(a: &[u8]) {
     show_front(&lines, n);
 }
 
+fn show_session(s: Session) {
+    match s {
+        Session::Regular => text(b"Regular"),
+        Session::Staging { bank, set } => {
+            named(b"Staging ", bank as u64);
+            named(b" ", set as u64);
+        }
+        Session::Trial => text(b"Trial"),
+        Session::Fallback => text(b"Fallback"),
+        Session::Restart => text(b"Restart"),
+    }
+}
+
+// The next session, or why there is none.
+fn show_answer(v: Verdict, s: Session) {
+    match v {
+        Verdict::Accepted => show_session(s),
+        Verdict::Refused(why) => show_refusal(why),
+    }
+}
+
+// What start-up answers. Where it gives no session the demonstration goes on with Restart, which every call refuses.
+fn show_started(r: Started) -> Session {
+    match r {
+        Started::In(session) => {
+            show_session(session);
+            session
+        }
+        Started::Refused(why) => {
+            show_refusal(why);
+            Session::Restart
+        }
+    }
+}
+
 // Start-up in that bank, and the bench sheet behind it.
 pub fn started(a: &[u8], booted: u32) -> Session {
-    let r = start_up::start_up(a, booted);
     named(b"start-up in bank ", booted as u64);
     text(b": ");
-    show_start(r);
+    let session = show_started(start_up::start_up(a, booted));
     text(b"\n");
     show_sheet(a);
-    let session = r.session;
     session
+}
+
+// Puts a word at an offset where it fits.
+fn put(a: &mut [u8], offset: u32, word: u32) {
+    let at = offset as usize;
+    if at + 4 <= a.len() {
+        field_writes::write32(a, at, word);
+    }
+}
+
+// Does the store at the place i of a list: an offset in the area, and the word that goes there.
+fn store(a: &mut [u8], list: &[u32], i: usize) {
+    if i < list.len() / 2 {
+        put(a, list[2 * i], list[2 * i + 1]);
+    }
+}
+
+// Does the first n stores of a list, in their order.
+fn apply(a: &mut [u8], list: &[u32], n: usize) {
+    let mut i = 0;
+    while i < n {
+        store(a, list, i);
+        i += 1;
+    }
 }
 
 fn show_stores(done: usize, all: usize) {
@@ -42,6 +98,14 @@ fn show_stores(done: usize, all: usize) {
         text(b", then a power cut");
     }
     text(b"\n");
+}
+
+fn show_name(letter: u8) {
+    match letter {
+        b'B' => text(b"Begin: "),
+        b'C' => text(b"Commit: "),
+        _ => text(b"End: "),
+    }
 }
 
 // The call of that letter; Commit's request is 0, accepted.
@@ -65,28 +129,32 @@ pub fn step(a: &mut [u8], letter: u8, session: Session, guid: [u8; 16], most: us
     let done = least(all, most);
     apply(a, &list, done);
     show_name(letter);
-    text(b": ");
-    show_start(r);
-    show_stores(done, all);
+    let verdict = r.verdict;
     let next = r.session;
+    show_answer(verdict, next);
+    show_stores(done, all);
     next
 }
 
-fn show_verdict(v: Verdict) {
-    match v {
-        Verdict::Accepted => text(b"accepted"),
-        Verdict::Refused(why) => show_refusal(why),
+// What repair answers: how many stores it lists.
+fn show_repaired(r: Repaired) -> usize {
+    match r {
+        Repaired::Listed(n) => {
+            text(b"accepted");
+            n
+        }
+        Repaired::Refused(why) => {
+            show_refusal(why);
+            0
+        }
     }
 }
 
 // Repair with all its stores done. It is given no session and answers none.
 pub fn repaired(a: &mut [u8]) {
     let mut list = [0u32; 4200];
-    let r = repair::repair(a, &mut list);
-    let all = r.stores;
-    apply(a, &list, all);
     text(b"repair: ");
-    let v = r.verdict;
-    show_verdict(v);
+    let all = show_repaired(repair::repair(a, &mut list));
+    apply(a, &list, all);
     show_stores(all, all);
 }

@@ -35,8 +35,8 @@ unfoldable pub withDescriptor : ℕ → Reading → Reading
 withDescriptor d (refused n) = refused n
 withDescriptor d (whole total ds) = whole total (d ∷ ds)
 
--- "Length above 0: a data block." "A block must lie wholly in the window." Block (4), then total (5). Blocks may share bytes with
--- each other or with descriptors, so nothing else is tested. next reads on with the new total
+-- "Length above 0: a data block." "A block must lie wholly in the window." Block (4), then total (5). Blocks may share
+-- bytes with each other or with descriptors, so nothing else is tested. next reads on with the new total
 unfoldable pub dataBlock : (B N address size total : ℕ) (next : ℕ → Reading) → Reading
 dataBlock B N address size total next =
     cond (within B N address size)
@@ -47,9 +47,10 @@ dataBlock B N address size total next =
 unfoldable pub jumpOrEnd : (address total : ℕ) (next : ℕ → Reading) → Reading
 jumpOrEnd address total next = cond (eqb address 0) (whole total []) (next address)
 
--- "A list is read in turns: a run of data descriptors, then a jump to the next run." In a run a descriptor stands 16 bytes behind the
--- one before. "For each descriptor: count (2), address (3), block (4), total (5), in list order; the first fault is the answer."
--- left is how many descriptors may still be read, a the next one's address, total what the blocks before it add up to
+-- "A list is read in turns: a run of data descriptors, then a jump to the next run." In a run a descriptor stands 16
+-- bytes behind the one before. "For each descriptor: count (2), address (3), block (4), total (5), in list order; the
+-- first fault is the answer." left is how many descriptors may still be read, a the next one's address, total what the
+-- blocks before it add up to
 unfoldable pub walk : (left : ℕ) (w : List ℕ) (B a total : ℕ) → Reading
 walk zero w B a total = refused DescriptorCount
 walk (suc left) w B a total =

@@ -68,7 +68,8 @@ fn jump(
     ds: &mut [u64; DESCRIPTOR_LIMIT],
 ) -> Read
     requires { ⌜ (left ≤ 256) × (total ≤ 16777216) × (base + length (now w) ≤ 2 ^ 64) × (length (now ds) ≡ 256) ⌝ }
-    ensures { λ r. ⌜ Kept (jumpOrEnd address total (λ next. walk left (now (w .entry)) base next total)) (256 - left) (now (ds .entry)) (now (ds .exit)) r ⌝ }
+    ensures { λ r. ⌜ Kept (jumpOrEnd address total (λ next. walk left (now (w .entry)) base next total))
+        (256 - left) (now (ds .entry)) (now (ds .exit)) r ⌝ }
 {
     if address == 0 {
         let count = DESCRIPTOR_LIMIT - left;

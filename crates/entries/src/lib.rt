@@ -1,8 +1,14 @@
-// The rules on the words and type GUIDs of a record's image entries (document 01, "The record": rules 8, 10 and 11). The counts and the
-// length have been tested (`Sized`) before anything here reads an entry.
+// The rules on the words and type GUIDs of a record's image entries (document 01, "The record": rules 8, 10 and 11).
+// The counts and the length have been tested (`Sized`) before anything here reads an entry.
 use fields::read16;
 use fields::read32;
 use fields::same_guid;
+use record::ACCEPTED_FROM;
+use record::RESERVED_FROM;
+use record::RESERVED8_AT;
+use record::RESERVED16_AT;
+use record::RESERVED32_AT;
+use record::bank_word;
 use record::entry_at;
 ghost use mathlib.Core.Path.{_≡_};
 ghost use mathlib.Core.Bool.{not};
@@ -18,10 +24,9 @@ fn bank_words(r: &[u8], banks: usize, images: usize, i: usize, from: usize, limi
     requires { ⌜ Sized (now r) banks images × (i < images) × (from ≤ 20) ⌝ }
     ensures { λ x. ⌜ x ≡ bankWords (now (r .entry)) banks from limit i ⌝ }
 {
-    let at = entry_at(banks, i);
     let mut b = 0;
     while b < banks {
-        if limit < read32(r, at + 32 + 24 * b + from) {
+        if limit < bank_word(r, banks, i, b, from) {
             return false;
         }
         b += 1;
@@ -49,16 +54,16 @@ pub fn reserved_rule(r: &[u8], banks: usize, images: usize) -> bool
     requires { ⌜ Sized (now r) banks images ⌝ }
     ensures { λ x. ⌜ x ≡ reservedRule (now (r .entry)) ⌝ }
 {
-    if read16(r, 22) != 0 {
+    if read16(r, RESERVED16_AT) != 0 {
         return false;
     }
-    if read32(r, 28) != 0 {
+    if read32(r, RESERVED32_AT) != 0 {
         return false;
     }
-    if r[33] != 0 {
+    if r[RESERVED8_AT] != 0 {
         return false;
     }
-    all_words(r, banks, images, 20, 0)
+    all_words(r, banks, images, RESERVED_FROM, 0)
 }
 
 // Rule 10.
@@ -66,7 +71,7 @@ pub fn accepted_rule(r: &[u8], banks: usize, images: usize) -> bool
     requires { ⌜ Sized (now r) banks images ⌝ }
     ensures { λ x. ⌜ x ≡ acceptedRule (now (r .entry)) ⌝ }
 {
-    all_words(r, banks, images, 16, 1)
+    all_words(r, banks, images, ACCEPTED_FROM, 1)
 }
 
 // Whether the type GUID of image i differs from those before it.

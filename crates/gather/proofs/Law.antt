@@ -1,10 +1,12 @@
--- What `gathered` gives is what document 01 says (specs/Law.antt), and it gives it wherever document 01 says so. Assumes nothing.
+-- What `gathered` gives is what document 01 says (specs/Law.antt), and it gives it wherever document 01 says so.
+-- Assumes nothing.
 use mathlib.Core.Path.{_≡_, refl, sym, ap, _∙_}
 use mathlib.Core.Bool.{Bool, true, false, cond}
 use mathlib.Core.List.{List}
+use mathlib.Core.Logic.{_⊎_, inl, inr, ⊎-elim}
 use Prim.Native.Nat.{ℕ, _+_, _-_, _≤_, _<_}
 use native.Mathlib.Omega.{arith}
-use borrow.Author.Tests.{eqb-true, eqb-false, ne-eqb}
+use borrow.Author.Tests.{eqb-true, eqb-false}
 use lib.Dec.{eqb}
 use lib.ListN.{length}
 use Rattle.fields.specs.Number.{put}
@@ -13,11 +15,11 @@ use Rattle.fields.proofs.Put.{put-length, put-inside, put-outside}
 use Rattle.refusals.specs.Number.{numberOf}
 use Rattle.refusals.proofs.Number.{number-positive}
 use Rattle.refusals.specs.declared.Refusal.{Refusal}
-use Rattle.refusals.specs.declared.Refusal.the-variants.{TotalZero, NoPlace}
+use Rattle.refusals.specs.declared.Refusal.the-variants.{DescriptorCount, TotalLength, TotalZero}
 use Rattle.descriptors.specs.Reading.{Reading, refused, whole, reading}
 use Rattle.descriptors.specs.Law.{Faultless}
 use Rattle.descriptors.specs.Scratch.{lengths}
-use Rattle.descriptors.proofs.Whole.{found, refused-early, whole-law, law-whole}
+use Rattle.descriptors.proofs.Whole.{found, refused-early, whole-law, law-whole, fault-law, law-fault, loop-law}
 use Rattle.place.specs.Place.{placeFor}
 use Rattle.place.specs.Law.{LowestFree, NoneFree}
 use Rattle.place.specs.declared.Place.{Place}
@@ -25,9 +27,9 @@ use Rattle.place.specs.declared.Place.the-variants.{At, Nowhere}
 use Rattle.place.proofs.Law.{place-law, no-place-law, law-place, law-no-place}
 use Rattle.blocks.specs.Blocks.{blocks}
 use Rattle.gather.specs.Gather.{Answer, refusal, place, copiedTo, finished, gathered}
-use Rattle.gather.specs.Law.{Succeeded, WasEmpty, HadNoPlace}
+use Rattle.gather.specs.Law.{Succeeded, WasEmpty, HadNoPlace, HadFault, ListRefusals}
 use Rattle.blocks.proofs.Copy.{blocks-length}
-use Rattle.gather.proofs.Ends.{total-zero, no-place, at-place, list-whole}
+use Rattle.gather.proofs.Ends.{total-zero, no-place, at-place, list-refused, list-whole}
 
 abbrev Outcome : Type 0
 Outcome = Answer × List ℕ
@@ -155,6 +157,27 @@ module _ (w : List ℕ) (B first : ℕ) where
   pub refusal-7-law : (w′ : List ℕ) → gathered w B first ≡ (refusal 7, w′) → HadNoPlace w B first w′
   refusal-7-law w′ x = if-7 (gathered w B first) w′ way x
 
+  if-fault : (o : Outcome) (n : ℕ) (w′ : List ℕ) → n ≤ 5 → Way o → o ≡ (refusal n, w′) → HadFault w B first n w′
+  if-fault o n w′ few (by-list m r) x =
+      let e = same-refusal (numberOf m) n w w′ x in
+      record { fault = m; numbered = e .0; answered = fault-law w B first m r; unchanged = sym (e .1) }
+  if-fault o n w′ few (by-total t ds r z) x = absurd (omega (arith, same-refusal 6 n w w′ x .0))
+  if-fault o n w′ few (by-no-place t ds r some e) x = absurd (omega (arith, same-refusal 7 n w w′ x .0))
+  if-fault o n w′ few (by-place t ds q r some e) x = absurd (not-refused n (put w (q - B) (blocks w B ds)) w′ q t x)
+
+  -- 1 to 5, and a list that comes back to a descriptor
+  pub list-refusals : ListRefusals w B first
+  list-refusals =
+      record {
+        only = λ n w′ few x. if-fault (gathered w B first) n w′ few way x;
+        there = λ n f. sym (list-refused w B first n (law-fault w B first n f));
+        loop = λ k.
+            ⊎-elim
+            (λ e. inl (sym (list-refused w B first DescriptorCount e)))
+            (λ e. inr (sym (list-refused w B first TotalLength e)))
+            (loop-law w B first k);
+      }
+
   if-refused : (o : Outcome) (n : ℕ) (w′ : List ℕ) → Way o → o ≡ (refusal n, w′) → w′ ≡ w
   if-refused o n w′ (by-list m r) x = sym (same-refusal (numberOf m) n w w′ x .1)
   if-refused o n w′ (by-total t ds r z) x = sym (same-refusal 6 n w w′ x .1)
@@ -177,7 +200,8 @@ module _ (w : List ℕ) (B first : ℕ) where
   pub refusal-numbers : (n : ℕ) (w′ : List ℕ) → gathered w B first ≡ (refusal n, w′) → (1 ≤ n) × (n ≤ 7)
   refusal-numbers n w′ x = if-number (gathered w B first) n w′ way x
 
-  -- and back: a faultless list is refused by 6 where its total is 0, else gathered at its lowest free start, else refused by 7
+  -- and back: a faultless list is refused by 6 where its total is 0, else gathered at its lowest free start, else
+  -- refused by 7
   module _ (ds : List ℕ) (f : Faultless w B first ds) where
     abbrev t : ℕ
     t = lengths w B ds

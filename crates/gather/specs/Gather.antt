@@ -1,6 +1,6 @@
--- What gathering answers and what the window holds afterwards (document 01, "The window and the scattered list", and demand 2).
--- w is the window's bytes at entry, B the address of the first, `first` the first descriptor's address, ds the addresses of the
--- descriptors read, and total what their lengths add up to. Assumes nothing.
+-- What gathering answers and what the window holds afterwards (document 01, "The window and the scattered list", and
+-- demand 2). w is the window's bytes at entry, B the address of the first, `first` the first descriptor's address, ds
+-- the addresses of the descriptors read, and total what their lengths add up to. Assumes nothing.
 use Prim.Native.Nat.{ℕ, _+_, _-_}
 use mathlib.Core.Bool.{Bool, true, false, cond}
 use mathlib.Core.List.{List}

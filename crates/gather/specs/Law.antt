@@ -1,16 +1,21 @@
--- What a place, 6 and 7 are proved to mean where `gathered` gives them, said without the walk and without the search (proofs/Law.antt), in the
--- words of document 01 and of demand 2. When 1 to 5 are given is said by `walk` alone. Names as in specs/Gather.antt. Assumes nothing.
+-- What a place and each refusal are proved to mean where `gathered` gives them, said without the walk and without the
+-- search (proofs/Law.antt), in the words of document 01 and of demand 2. Names as in specs/Gather.antt. Assumes
+-- nothing.
 use Prim.Native.Nat.{ℕ, _+_, _-_, _≤_, _<_}
 use mathlib.Core.List.{List}
 use mathlib.Core.Logic.{_⊎_}
 use mathlib.Core.Path.{_≡_}
 use lib.ListN.{length, getD}
-use Rattle.descriptors.specs.Law.{Faultless}
+use Rattle.refusals.specs.Number.{numberOf}
+use Rattle.refusals.specs.declared.Refusal.{Refusal}
+use Rattle.descriptors.specs.Law.{Faultless, FirstFault, ComesBack}
 use Rattle.descriptors.specs.Scratch.{lengths}
 use Rattle.place.specs.Law.{LowestFree, NoneFree}
 use Rattle.blocks.specs.Blocks.{blocks}
+use Rattle.gather.specs.Gather.{refusal, gathered}
 
--- success: "the blocks, in list order, at the lowest place that shares no byte with a block or a descriptor read, changes nothing else"
+-- success: "the blocks, in list order, at the lowest place that shares no byte with a block or a descriptor read,
+-- changes nothing else"
 pub record Succeeded (w : List ℕ) (B first p total : ℕ) (afterwards : List ℕ) : Type 0 where
   pub descriptors : List ℕ
   pub list : Faultless w B first descriptors
@@ -37,3 +42,16 @@ pub record HadNoPlace (w : List ℕ) (B first : ℕ) (afterwards : List ℕ) : T
   pub some : 0 < lengths w B descriptors
   pub none : NoneFree w B (lengths w B descriptors) descriptors
   pub unchanged : afterwards ≡ w
+
+-- 1 to 5: "in list order; the first fault is the answer"
+pub record HadFault (w : List ℕ) (B first number : ℕ) (afterwards : List ℕ) : Type 0 where
+  pub fault : Refusal
+  pub numbered : numberOf fault ≡ number
+  pub answered : FirstFault w B first fault
+  pub unchanged : afterwards ≡ w
+
+-- each of them is given exactly if it is the list's first fault, and a list that comes back to a descriptor gets 2 or 5
+pub record ListRefusals (w : List ℕ) (B first : ℕ) : Type 0 where
+  pub only : (n : ℕ) (w′ : List ℕ) → n ≤ 5 → gathered w B first ≡ (refusal n, w′) → HadFault w B first n w′
+  pub there : (n : Refusal) → FirstFault w B first n → gathered w B first ≡ (refusal (numberOf n), w)
+  pub loop : ComesBack w B first → (gathered w B first ≡ (refusal 2, w)) ⊎ (gathered w B first ≡ (refusal 5, w))

@@ -45,9 +45,9 @@ fn finish(
     }
 }
 
-// Gathers the blocks of the list whose first descriptor stands at the address `first`. The window `w` holds the bytes from
-// the address `base` on. On success the blocks stand, in list order, at the place answered, and every other byte is as it
-// was; on a refusal every byte is as it was.
+// Gathers the blocks of the list whose first descriptor stands at the address `first`. The window `w` holds the bytes
+// from the address `base` on. On success the blocks stand, in list order, at the place answered, and every other byte
+// is as it was; on a refusal every byte is as it was.
 pub fn gather(w: &mut [u8], base: u64, first: u64) -> Gathered
     ensures { λ r. ⌜ (answerOf r, now (w .exit)) ≡ gathered (now (w .entry)) base first ⌝ }
 {

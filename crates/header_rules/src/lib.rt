@@ -1,40 +1,53 @@
-// The rules on the record's header (document 01, "The record", rules 1 to 7 and 9). Each is a function that answers what its definition says.
+// The rules on the record's header (document 01, "The record", rules 1 to 7 and 9). Each is a function that answers
+// what its definition says.
 use fields::read16;
-use fields::read32;
+use record::BANK_ENTRY;
+use record::BANK_ENTRY_SIZE_AT;
+use record::BANK_LIMIT;
+use record::DESCRIPTOR_OFFSET_AT;
 use record::HEADER;
+use record::IMAGE_ENTRY_SIZE_AT;
+use record::IMAGE_LIMIT;
+use record::active;
+use record::bank_count;
+use record::entry_size;
+use record::image_count;
+use record::previous;
+use record::size;
+use record::version;
 ghost use mathlib.Core.Path.{_≡_};
 ghost use Prim.Native.Nat.{_≤_};
 ghost use lib.ListN.{length};
-ghost use Rattle.record.specs.Rules.{versionRule, bankCountRule, imageCountRule, bankEntrySizeRule, imageEntrySizeRule, sizeRule, descriptorOffsetRule, banksNamedRule};
-
-// The most images that a record may have.
-pub const IMAGE_LIMIT: u16 = 32;
+ghost use Rattle.record.specs.Layout.{headerSize};
+ghost use Rattle.record.specs.Rules.{versionRule, bankCountRule, imageCountRule, bankEntrySizeRule};
+ghost use Rattle.record.specs.Rules.{imageEntrySizeRule, sizeRule, descriptorOffsetRule, banksNamedRule};
 
 // Rule 1.
 pub fn version_rule(r: &[u8]) -> bool
-    requires { ⌜ 40 ≤ length (now r) ⌝ }
+    requires { ⌜ headerSize ≤ length (now r) ⌝ }
     ensures { λ b. ⌜ b ≡ versionRule (now (r .entry)) ⌝ }
 {
-    read32(r, 4) == 2
+    version(r) == 2
 }
 
 // Rule 2.
 pub fn bank_count_rule(r: &[u8]) -> bool
-    requires { ⌜ 40 ≤ length (now r) ⌝ }
+    requires { ⌜ headerSize ≤ length (now r) ⌝ }
     ensures { λ b. ⌜ b ≡ bankCountRule (now (r .entry)) ⌝ }
 {
-    if r[32] < 2 {
+    let banks = bank_count(r);
+    if banks < 2 {
         return false;
     }
-    r[32] <= 4
+    banks <= BANK_LIMIT
 }
 
 // Rule 3.
 pub fn image_count_rule(r: &[u8]) -> bool
-    requires { ⌜ 40 ≤ length (now r) ⌝ }
+    requires { ⌜ headerSize ≤ length (now r) ⌝ }
     ensures { λ b. ⌜ b ≡ imageCountRule (now (r .entry)) ⌝ }
 {
-    let images = read16(r, 34);
+    let images = image_count(r);
     if images < 1 {
         return false;
     }
@@ -43,51 +56,48 @@ pub fn image_count_rule(r: &[u8]) -> bool
 
 // Rule 4.
 pub fn bank_entry_size_rule(r: &[u8]) -> bool
-    requires { ⌜ 40 ≤ length (now r) ⌝ }
+    requires { ⌜ headerSize ≤ length (now r) ⌝ }
     ensures { λ b. ⌜ b ≡ bankEntrySizeRule (now (r .entry)) ⌝ }
 {
-    read16(r, 38) == 24
+    read16(r, BANK_ENTRY_SIZE_AT) as usize == BANK_ENTRY
 }
 
 // Rule 5.
 pub fn image_entry_size_rule(r: &[u8]) -> bool
-    requires { ⌜ 40 ≤ length (now r) ⌝ }
+    requires { ⌜ headerSize ≤ length (now r) ⌝ }
     ensures { λ b. ⌜ b ≡ imageEntrySizeRule (now (r .entry)) ⌝ }
 {
-    let banks = r[32] as u16;
-    read16(r, 36) == 32 + 24 * banks
+    read16(r, IMAGE_ENTRY_SIZE_AT) as usize == entry_size(bank_count(r))
 }
 
 // Rule 6.
 pub fn size_rule(r: &[u8]) -> bool
-    requires { ⌜ 40 ≤ length (now r) ⌝ }
+    requires { ⌜ headerSize ≤ length (now r) ⌝ }
     ensures { λ b. ⌜ b ≡ sizeRule (now (r .entry)) ⌝ }
 {
-    let size = read32(r, 16) as usize;
-    let banks = r[32] as usize;
-    let images = read16(r, 34) as usize;
-    if size != HEADER + images * (32 + 24 * banks) {
+    let n = size(r) as usize;
+    if n != HEADER + image_count(r) * entry_size(bank_count(r)) {
         return false;
     }
-    r.len() == size
+    r.len() == n
 }
 
 // Rule 7.
 pub fn descriptor_offset_rule(r: &[u8]) -> bool
-    requires { ⌜ 40 ≤ length (now r) ⌝ }
+    requires { ⌜ headerSize ≤ length (now r) ⌝ }
     ensures { λ b. ⌜ b ≡ descriptorOffsetRule (now (r .entry)) ⌝ }
 {
-    read16(r, 20) == 32
+    read16(r, DESCRIPTOR_OFFSET_AT) == 32
 }
 
 // Rule 9.
 pub fn banks_named_rule(r: &[u8]) -> bool
-    requires { ⌜ 40 ≤ length (now r) ⌝ }
+    requires { ⌜ headerSize ≤ length (now r) ⌝ }
     ensures { λ b. ⌜ b ≡ banksNamedRule (now (r .entry)) ⌝ }
 {
-    let banks = r[32] as u32;
-    if banks <= read32(r, 8) {
+    let banks = bank_count(r);
+    if banks <= active(r) as usize {
         return false;
     }
-    read32(r, 12) < banks
+    (previous(r) as usize) < banks
 }

@@ -16,33 +16,13 @@ use Rattle.kept_sound.specs.Fields.{Fields, fieldsOf, withState, allIn, 
 use Rattle.kept_sound.proofs.Says.{Says, says-active, says-previous, says-state, says-flag}
 use Rattle.kept_sound.proofs.Carried.{all-in, all-reads}
 
--- the first n images of bank b unaccepted
-abbrev cleared : (n b : ℕ) → Fields → Fields
-cleared n b f =
-    record {
-      active-bank = f .active-bank;
-      previous-bank = f .previous-bank;
-      states = f .states;
-      flags = λ i c. cond (ltb i n && eqb c b) 0 (f .flags i c);
-    }
+-- other flags
+abbrev flagging : ((i b : ℕ) → ℕ) → Fields → Fields
+flagging flags f = record { active-bank = f .active-bank; previous-bank = f .previous-bank; states = f .states; flags = flags }
 
--- flags told another way
-says-flags : (r : List ℕ) (banks images : ℕ) (x : List ℕ) (f g : Fields) → Says r banks images x f
-    → g .active-bank ≡ f .active-bank
-    → g .previous-bank ≡ f .previous-bank
-    → ((b : ℕ) → g .states b ≡ f .states b)
-    → ((i b : ℕ) → i < images → b < banks → g .flags i b ≡ f .flags i b)
-    → Says r banks images x g
-says-flags r banks images x f g w a p t h =
-    record {
-      long = w .long;
-      small = w .small;
-      active-is = w .active-is ∙ sym a;
-      previous-is = w .previous-is ∙ sym p;
-      state-is = λ b hb. w .state-is b hb ∙ sym (t b);
-      flag-is = λ i b hi hb. w .flag-is i b hi hb ∙ sym (h i b hi hb);
-      stays = w .stays;
-    }
+-- the first n images of bank b unaccepted
+abbrev cleared : (n b : ℕ) → Fields → (i c : ℕ) → ℕ
+cleared n b f i c = cond (eqb c b && ltb i n) 0 (f .flags i c)
 
 -- below n + 1 is at n or below it
 one-more : (i n : ℕ) → ltb i (suc n) ≡ (eqb i n || ltb i n)
@@ -53,26 +33,43 @@ one-more i n = go (eqb i n) (ltb i n) refl refl
     go false true e h = lt-ltb i (suc n) (omega (arith, ltb-true i n h))
     go false false e h = le-ltb i (suc n) (omega (arith, eqb-false i n e, ltb-false i n h))
 
-one-more-cleared : (p q t : Bool) (v : ℕ) → cond ((q || t) && p) 0 v ≡ cond (p && q) 0 (cond (t && p) 0 v)
-one-more-cleared true true true v = refl
-one-more-cleared true true false v = refl
-one-more-cleared true false true v = refl
-one-more-cleared true false false v = refl
-one-more-cleared false true true v = refl
-one-more-cleared false true false v = refl
-one-more-cleared false false true v = refl
-one-more-cleared false false false v = refl
+one-more-cleared : (p q t : Bool) (v : ℕ) → cond (p && q) 0 (cond (p && t) 0 v) ≡ cond (p && (q || t)) 0 v
+one-more-cleared true true t v = refl
+one-more-cleared true false t v = refl
+one-more-cleared false q t v = refl
 
-says-cleared : (r : List ℕ) (banks images : ℕ) → Sized r banks images → (x : List ℕ) (f : Fields) → Says r banks images x f
-    → (b : ℕ) → b < banks → (n : ℕ) → n ≤ images → Says r banks images (unacceptedBelow n b x) (cleared n b f)
-unfolding unacceptedBelow
-says-cleared r banks images s x f w b hb zero h =
-    says-flags r banks images x f (cleared zero b f) w refl refl (λ c. refl) (λ i c hi hc. rw (le-ltb i 0 (omega arith)))
-says-cleared r banks images s x f w b hb (suc n) h =
-    let before = says-cleared r banks images s x f w b hb n (omega arith) in
-    let one = says-flag r banks images s (unacceptedBelow n b x) (cleared n b f) before n b 0 (omega arith) hb (omega arith) in
-    says-flags r banks images (setAccepted n b 0 (unacceptedBelow n b x)) _ (cleared (suc n) b f) one refl refl (λ c. refl) (λ i c hi hc.
-    rw (one-more i n) (one-more-cleared (eqb c b) (eqb i n) (ltb i n) (f .flags i c)))
+none-cleared : (p : Bool) (v : ℕ) → v ≡ cond (p && false) 0 v
+none-cleared true v = refl
+none-cleared false v = refl
+
+module _ (r : List ℕ) (banks images : ℕ) (s : Sized r banks images) where
+  says-flags : (x : List ℕ) (f : Fields) (flags : (i b : ℕ) → ℕ) → Says r banks images x f
+      → ((i b : ℕ) → i < images → b < banks → f .flags i b ≡ flags i b) → Says r banks images x (flagging flags f)
+  says-flags x f flags w h =
+      record {
+        long = w .long;
+        small = w .small;
+        active-is = w .active-is;
+        previous-is = w .previous-is;
+        state-is = w .state-is;
+        flag-is = λ i b hi hb. w .flag-is i b hi hb ∙ h i b hi hb;
+        stays = w .stays;
+      }
+
+  says-cleared : (x : List ℕ) (f : Fields) → Says r banks images x f → (b : ℕ) → b < banks → (n : ℕ) → n ≤ images
+      → Says r banks images (unacceptedBelow n b x) (flagging (cleared n b f) f)
+  unfolding unacceptedBelow
+  says-cleared x f w b hb zero h =
+      says-flags x f (cleared zero b f) w (λ i c hi hc. rw (le-ltb i 0 (omega arith)) (none-cleared (eqb c b) (f .flags i c)))
+  says-cleared x f w b hb (suc n) h =
+      let before = says-cleared x f w b hb n (omega arith) in
+      says-flags _ _ (cleared (suc n) b f) (says-flag r banks images s (unacceptedBelow n b x) _ before n b 0 (omega arith) hb (omega arith))
+      (λ i c hi hc. rw (one-more i n) (one-more-cleared (eqb c b) (eqb i n) (ltb i n) (f .flags i c)))
+
+-- the whole bank
+all-cleared : (p : Bool) (v : ℕ) → cond (p && true) 0 v ≡ cond p 0 v
+all-cleared true v = refl
+all-cleared false v = refl
 
 module _ (r : List ℕ) (small : Bytes r) (s : Sized r (bankCount r) (imageCount r)) where
   abbrev f : Fields
@@ -82,7 +79,7 @@ module _ (r : List ℕ) (small : Bytes r) (s : Sized r (bankCount r) (imageCount
   Told x g = Says r (bankCount r) (imageCount r) x g
 
   -- the old record
-  told : Told r f
+  pub told : Told r f
   told =
       record {
         long = refl;
@@ -101,10 +98,9 @@ module _ (r : List ℕ) (small : Bytes r) (s : Sized r (bankCount r) (imageCount
     pub begin-says : Told (unacceptedBelow (imageCount r) u (setState u invalid r)) (begun u f)
     begin-says =
         let state = says-state r (bankCount r) (imageCount r) s r f told u invalid u4 (omega arith) in
-        let x = setState u invalid r in
-        let all = says-cleared r (bankCount r) (imageCount r) s x (withState u invalid f) state u hu (imageCount r) (omega arith) in
-        says-flags r (bankCount r) (imageCount r) (unacceptedBelow (imageCount r) u x) _ (begun u f) all refl refl (λ b. refl) (λ i b hi hb.
-        rw (lt-ltb i (imageCount r) hi))
+        says-flags r (bankCount r) (imageCount r) s _ _ (begun u f .flags)
+        (says-cleared r (bankCount r) (imageCount r) s _ _ state u hu (imageCount r) (omega arith)) (λ i b hi hb.
+        rw (lt-ltb i (imageCount r) hi) (all-cleared (eqb b u) (f .flags i b)))
 
     pub commit-says : (i request : ℕ) → i < imageCount r → Told (setAccepted i u (cond (eqb request 0) 1 0) r) (committed i request u f)
     commit-says i request hi =
@@ -127,7 +123,7 @@ module _ (r : List ℕ) (small : Bytes r) (s : Sized r (bankCount r) (imageCount
         go false = omega arith
 
   module _ (low : active r < bankCount r) (i : ℕ) (hi : i < imageCount r) where
-    marked-says : Told (marked i r) (markedIn i f)
+    pub marked-says : Told (marked i r) (markedIn i f)
     unfolding marked
     marked-says = says-flag r (bankCount r) (imageCount r) s r f told i (active r) 1 hi low (omega arith)
 

@@ -1,4 +1,5 @@
--- Soundness told by the fields: a record that says what the rules ask, and has a sound record's bytes elsewhere, is sound. Assumes nothing.
+-- Soundness told by the fields: a record that says what the rules ask, and has a sound record's bytes elsewhere, is
+-- sound. Assumes nothing.
 use mathlib.Core.Path.{_≡_, refl, sym, ap, _∙_}
 use mathlib.Core.Bool.{Bool, true, not, _&&_}
 use mathlib.Core.Logic.{inl, inr}
@@ -15,7 +16,7 @@ use Rattle.fields.proofs.Number.{le-same}
 use Rattle.fields.proofs.Beside.{Apart, apart-each, guid-same}
 use Rattle.record.specs.Every.{below}
 use Rattle.record.specs.Layout.{version, active, reserved22, state, reserved28, bankCount, reserved33, imageCount, entryAt, typeGuid, acceptedAt, reservedAt, accepted, reserved}
-use Rattle.record.specs.Rules.{versionRule, bankCountRule, imageCountRule, bankEntrySizeRule, imageEntrySizeRule, sizeRule, descriptorOffsetRule, reservedRule, banksNamedRule, acceptedRule, typeGuidsRule, invalid, stateAllowed, statesRule, allAccepted, bankConsistent, banksRule, crcRule, rules, each, sound}
+use Rattle.record.specs.Rules.{versionRule, bankCountRule, imageCountRule, bankEntrySizeRule, imageEntrySizeRule, sizeRule, descriptorOffsetRule, reservedRule, banksNamedRule, acceptedRule, typeGuidsRule, invalid, stateAllowed, statesRule, allAccepted, bankConsistent, banksRule, crcRule, rules, sound}
 use Rattle.record.specs.Sized.{Sized}
 use Rattle.record.proofs.Below.{below-each, below-same}
 use Rattle.record.proofs.Sound.{All, all-of, sound-named}
@@ -23,11 +24,6 @@ use Rattle.kept_sound.specs.Fields.{Fields, fieldsOf, allIn, Outside, El
 use Rattle.kept_sound.proofs.Places.{guid-elsewhere, reserved-elsewhere, header-elsewhere}
 use Rattle.kept_sound.proofs.Says.{Says}
 use Rattle.kept_sound.proofs.Good.{bankFits, Good, below-all}
-
--- tests that hold one by one
-pub each-of : (tests : List (List ℕ → Bool)) (r : List ℕ) → All tests r → each tests r ≡ true
-each-of [] r a = refl
-each-of (t ∷ ts) r a = rw (a .0, each-of ts r (a .1))
 
 -- rule 13 for one bank, as the fields tell it
 consistent-fits : (r : List ℕ) (b : ℕ) → bankConsistent r b ≡ bankFits (state r b) (allAccepted r b)
@@ -207,43 +203,19 @@ module _ (r y : List ℕ) (f : Fields) (w : Says r (bankCount r) (imageCount r) 
     unfolding sound
     sound-of e crc =
         let a : All rules r = all-of rules r e in
-        each-of rules y (
+        rw (
           rule1 ∙ a .0,
-          (
-            rule2 ∙ a .1 .0,
-            (
-              rule3 ∙ a .1 .1 .0,
-              (
-                rule4 ∙ a .1 .1 .1 .0,
-                (
-                  rule5 ∙ a .1 .1 .1 .1 .0,
-                  (
-                    rule6 ∙ a .1 .1 .1 .1 .1 .0,
-                    (
-                      rule7 ∙ a .1 .1 .1 .1 .1 .1 .0,
-                      (
-                        rule8 ∙ a .1 .1 .1 .1 .1 .1 .1 .0,
-                        (
-                          rule9,
-                          (
-                            rule10,
-                            (
-                              rule11 ∙ a .1 .1 .1 .1 .1 .1 .1 .1 .1 .1 .0,
-                              (
-                                rule12,
-                                (
-                                  rule13,
-                                  (crc, tt),
-                                ),
-                              ),
-                            ),
-                          ),
-                        ),
-                      ),
-                    ),
-                  ),
-                ),
-              ),
-            ),
-          ),
+          rule2 ∙ a .1 .0,
+          rule3 ∙ a .1 .1 .0,
+          rule4 ∙ a .1 .1 .1 .0,
+          rule5 ∙ a .1 .1 .1 .1 .0,
+          rule6 ∙ a .1 .1 .1 .1 .1 .0,
+          rule7 ∙ a .1 .1 .1 .1 .1 .1 .0,
+          rule8 ∙ a .1 .1 .1 .1 .1 .1 .1 .0,
+          rule9,
+          rule10,
+          rule11 ∙ a .1 .1 .1 .1 .1 .1 .1 .1 .1 .1 .0,
+          rule12,
+          rule13,
+          crc,
         )

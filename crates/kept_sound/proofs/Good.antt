@@ -1,13 +1,13 @@
 -- What rules 9, 10, 12 and 13 ask of the fields that calls alter, and that each call keeps it. Assumes nothing.
 use mathlib.Core.Path.{_≡_, refl, sym, ap, _∙_}
 use mathlib.Core.Bool.{Bool, true, false, cond, not, _&&_}
-use mathlib.Core.Logic.{⊎-elim}
+use mathlib.Core.Logic.{_⊎_, inl, inr, ⊎-elim}
 use Prim.Native.Nat.{ℕ, zero, suc, _+_, _%_, _≤_, _<_}
-use native.Mathlib.Nat.{mod-lt, mod-eq-of-lt, mod-self}
+use native.Mathlib.Nat.{mod-eq-of-lt, mod-self}
 use native.Mathlib.Omega.{arith}
 use borrow.Author.Tests.{eqb-true, eq-eqb, ne-eqb, lt-ltb}
 use lib.Dec.{eqb}
-use Rattle.fields.proofs.Tests.{no-true, le-or-lt}
+use Rattle.fields.proofs.Tests.{no-true, either, le-or-lt}
 use Rattle.record.specs.Every.{below}
 use Rattle.record.specs.Layout.{updateBank}
 use Rattle.record.specs.Rules.{invalid, valid, acceptedBank, stateKnown, stateAllowed}
@@ -33,10 +33,7 @@ unfolding below
 below-all test zero h = refl
 below-all test (suc n) h = rw (below-all test n (λ i lt. h i (omega arith)), h n (omega arith))
 
--- the update bank is one of the banks, and not the active one
-pub update-low : (banks a : ℕ) → 2 ≤ banks → updateBank banks a < banks
-update-low banks a h = mod-lt (a + 1) (omega arith)
-
+-- the update bank is not the active one
 pub update-differs : (banks a : ℕ) → 2 ≤ banks → a < banks → updateBank banks a ≡ a → ⊥
 update-differs banks a h k e = ⊎-elim wraps plain (le-or-lt banks (a + 1))
   where
@@ -53,15 +50,19 @@ known-allowed : (banks b s : ℕ) → b < banks → stateKnown s ≡ true → st
 unfolding stateAllowed
 known-allowed banks b s h k = rw (lt-ltb b banks h) k
 
+allowed-known : (banks b s : ℕ) → b < banks → stateAllowed banks b s ≡ true → stateKnown s ≡ true
+unfolding stateAllowed
+allowed-known banks b s h e = rw (lt-ltb b banks h) at e
+
 -- a bank that is 255 fits, and one that becomes what its images make of it
 fits-invalid : (all : Bool) → bankFits invalid all ≡ true
 unfolding bankFits
 fits-invalid all = refl
 
--- or that is 252 with all accepted
-fits-full : (all : Bool) → all ≡ true → bankFits acceptedBank all ≡ true
+-- or that becomes 252 with all accepted
+fits-full : (b s : ℕ) (all : Bool) → all ≡ true → bankFits (cond (eqb b b) acceptedBank s) all ≡ true
 unfolding bankFits
-fits-full all e = e
+fits-full b s all e = rw (eq-eqb b b refl) e
 
 fits-ended : (all : Bool) → bankFits (cond all acceptedBank valid) all ≡ true
 unfolding bankFits
@@ -73,17 +74,50 @@ fits-part : (s : ℕ) (before after : Bool) → bankFits s before ≡ true → a
 fits-part s true after h e grows = absurd (no-true (sym e ∙ grows refl))
 fits-part s false after h e grows = rw e h
 
-module _ (banks images : ℕ) (f : Fields) (g : Good banks images f) where
-  -- ---- the state of bank b anew
-  state-known : (b v : ℕ) → b < banks → stateKnown v ≡ true → (c : ℕ) → c < 4 → stateAllowed banks c (cond (eqb c b) v (f .states c)) ≡ true
-  state-known b v h k c hc = go (eqb c b) refl
-    where
-      go : (t : Bool) → eqb c b ≡ t → stateAllowed banks c (cond t v (f .states c)) ≡ true
-      go true e = known-allowed banks c v (omega (arith, eqb-true c b e)) k
-      go false e = g .states-known c hc
+-- a bank that is known and not 255 is 252 if all its images are accepted, else 254
+live-is : (s : ℕ) (all : Bool) → stateKnown s ≡ true → eqb s invalid ≡ false → bankFits s all ≡ true → s ≡ cond all acceptedBank valid
+unfolding bankFits
+live-is s all known live fits = go all fits (either (eqb s valid) (eqb s acceptedBank) (rw live at known))
+  where
+    go : (t : Bool) → bankFits s t ≡ true → (eqb s valid ≡ true) ⊎ (eqb s acceptedBank ≡ true) → s ≡ cond t acceptedBank valid
+    go true fit (inl e) = let z = eqb-true s valid e in absurd (no-true (rw z at fit))
+    go true fit (inr e) = eqb-true s acceptedBank e
+    go false fit (inl e) = eqb-true s valid e
+    go false fit (inr e) = let z = eqb-true s acceptedBank e in absurd (no-true (rw z at fit))
 
-  still-live : (b v : ℕ) → (f .active-bank ≡ b → ⊥) → eqb (cond (eqb (f .active-bank) b) v (f .states (f .active-bank))) invalid ≡ false
-  still-live b v differ = rw (ne-eqb (f .active-bank) b differ) (g .live)
+module _ (banks images : ℕ) (f : Fields) (g : Good banks images f) where
+  -- the active bank is such a one
+  pub status : banks ≤ 4 → f .states (f .active-bank) ≡ cond (allIn images (f .active-bank) f) acceptedBank valid
+  status few =
+      let a = f .active-bank in
+      live-is (f .states a) (allIn images a f)
+      (allowed-known banks a (f .states a) (g .active-low) (g .states-known a (omega (arith, g .active-low)))) (g .live) (g .fitting a (g .active-low))
+
+  -- fields that differ from f in bank u alone, which fits, and in the banks that they name
+  good-but : (u : ℕ) (h : Fields) → h .active-bank < banks → h .previous-bank < banks
+      → ((i b : ℕ) → i < images → b < banks → h .flags i b ≤ 1)
+      → ((b : ℕ) → eqb b u ≡ false → (h .states b ≡ f .states b) × (allIn images b h ≡ allIn images b f))
+      → (u < 4 → stateAllowed banks u (h .states u) ≡ true)
+      → bankFits (h .states u) (allIn images u h) ≡ true
+      → eqb (h .states (h .active-bank)) invalid ≡ false
+      → Good banks images h
+  good-but u h active-low previous-low flags-low other known fits live =
+      record {
+        active-low = active-low;
+        previous-low = previous-low;
+        flags-low = flags-low;
+        states-known = λ b hb. allowed b hb (eqb b u) refl;
+        fitting = λ b hb. fit b hb (eqb b u) refl;
+        live = live;
+      }
+    where
+      allowed : (b : ℕ) → b < 4 → (t : Bool) → eqb b u ≡ t → stateAllowed banks b (h .states b) ≡ true
+      allowed b hb true e = let z = eqb-true b u e in rw z (known (omega (arith, z)))
+      allowed b hb false e = rw (other b e .0) (g .states-known b hb)
+
+      fit : (b : ℕ) → b < banks → (t : Bool) → eqb b u ≡ t → bankFits (h .states b) (allIn images b h) ≡ true
+      fit b hb true e = rw (eqb-true b u e) fits
+      fit b hb false e = rw (other b e .0, other b e .1) (g .fitting b hb)
 
   -- ---- the flag of image i in bank b anew
   flag-low : (i b v : ℕ) → v ≤ 1 → (j c : ℕ) → j < images → c < banks → cond (eqb c b && eqb j i) v (f .flags j c) ≤ 1
@@ -107,59 +141,30 @@ module _ (banks images : ℕ) (f : Fields) (g : Good banks images f) where
   -- ---- Begin
   pub good-begun : (u : ℕ) → u < banks → (f .active-bank ≡ u → ⊥) → Good banks images (begun u f)
   good-begun u h differ =
-      record {
-        active-low = g .active-low;
-        previous-low = g .previous-low;
-        flags-low = λ i b hi hb. low i b hi hb (eqb b u);
-        states-known = state-known u invalid h refl;
-        fitting = λ b hb. fit b hb (eqb b u);
-        live = still-live u invalid differ;
-      }
+      good-but u (begun u f) (g .active-low) (g .previous-low) (λ i b hi hb. low i b hi hb (eqb b u)) (λ b e. (rw e, rw e))
+      (λ l. rw (eq-eqb u u refl) (known-allowed banks u invalid h refl))
+      (rw (eq-eqb u u refl) (fits-invalid _)) (rw (ne-eqb (f .active-bank) u differ) (g .live))
     where
       low : (i b : ℕ) → i < images → b < banks → (t : Bool) → cond t 0 (f .flags i b) ≤ 1
       low i b hi hb true = omega arith
       low i b hi hb false = g .flags-low i b hi hb
 
-      fit : (b : ℕ) → b < banks → (t : Bool) → bankFits (cond t invalid (f .states b)) (below images (λ i. eqb (cond t 0 (f .flags i b)) 1)) ≡ true
-      fit b hb true = fits-invalid (below images (λ i. eqb 0 1))
-      fit b hb false = g .fitting b hb
-
   -- ---- Commit
   pub good-committed : (i request u : ℕ) → f .states u ≡ invalid → Good banks images (committed i request u f)
   good-committed i request u staged =
-      record {
-        active-low = g .active-low;
-        previous-low = g .previous-low;
-        flags-low = flag-low i u v (small (eqb request 0));
-        states-known = g .states-known;
-        fitting = λ b hb. fit b hb (eqb b u) refl;
-        live = g .live;
-      }
+      let v : ℕ = cond (eqb request 0) 1 0 in
+      good-but u (committed i request u f) (g .active-low) (g .previous-low) (flag-low i u v (small (eqb request 0)))
+      (λ b e. (refl, all-other i u v b e)) (g .states-known u) (rw staged (fits-invalid _)) (g .live)
     where
-      v : ℕ
-      v = cond (eqb request 0) 1 0
-
       small : (t : Bool) → cond t 1 0 ≤ 1
       small true = omega arith
       small false = omega arith
 
-      fit : (b : ℕ) → b < banks → (t : Bool) → eqb b u ≡ t → bankFits (f .states b) (allIn images b (committed i request u f)) ≡ true
-      fit b hb true e =
-          let z : f .states b ≡ invalid = ap (f .states) (eqb-true b u e) ∙ staged in
-          rw z (fits-invalid (allIn images b (committed i request u f)))
-      fit b hb false e = rw (all-other i u (cond (eqb request 0) 1 0) b e) (g .fitting b hb)
-
   -- ---- End
   pub good-ended : (u : ℕ) → u < banks → Good banks images (ended images u f)
   good-ended u h =
-      record {
-        active-low = h;
-        previous-low = g .active-low;
-        flags-low = g .flags-low;
-        states-known = state-known u (cond (allIn images u f) acceptedBank valid) h (known (allIn images u f));
-        fitting = λ b hb. fit b hb (eqb b u) refl;
-        live = rw (eq-eqb u u refl) (lives (allIn images u f));
-      }
+      good-but u (ended images u f) h (g .active-low) (g .flags-low) (λ b e. (rw e, refl)) (λ l. rw (eq-eqb u u refl) (known-allowed banks u _ h (known (allIn images u f))))
+      (rw (eq-eqb u u refl) (fits-ended (allIn images u f))) (rw (eq-eqb u u refl) (lives (allIn images u f)))
     where
       known : (t : Bool) → stateKnown (cond t acceptedBank valid) ≡ true
       known true = refl
@@ -169,11 +174,6 @@ module _ (banks images : ℕ) (f : Fields) (g : Good banks images f) where
       lives true = refl
       lives false = refl
 
-      fit : (b : ℕ) → b < banks → (t : Bool) → eqb b u ≡ t
-          → bankFits (cond t (cond (allIn images u f) acceptedBank valid) (f .states b)) (allIn images b f) ≡ true
-      fit b hb true e = rw (eqb-true b u e) (fits-ended (allIn images u f))
-      fit b hb false e = g .fitting b hb
-
   -- ---- Accept
   module _ (i : ℕ) where
     abbrev a : ℕ
@@ -182,46 +182,16 @@ module _ (banks images : ℕ) (f : Fields) (g : Good banks images f) where
     abbrev m : Fields
     m = markedIn i f
 
-    -- all are accepted now
-    good-full : allIn images a m ≡ true → Good banks images (withState a acceptedBank m)
-    good-full full =
-        record {
-          active-low = g .active-low;
-          previous-low = g .previous-low;
-          flags-low = flag-low i a 1 (omega arith);
-          states-known = state-known a acceptedBank (g .active-low) refl;
-          fitting = λ b hb. fit b hb (eqb b a) refl;
-          live = rw (eq-eqb a a refl);
-        }
-      where
-        fit : (b : ℕ) → b < banks → (t : Bool) → eqb b a ≡ t → bankFits (cond t acceptedBank (f .states b)) (allIn images b m) ≡ true
-        fit b hb true e = rw (eqb-true b a e) (fits-full (allIn images a m) full)
-        fit b hb false e = rw (all-other i a 1 b e) (g .fitting b hb)
-
-    -- not all are
-    good-part : allIn images a m ≡ false → Good banks images m
-    good-part part =
-        record {
-          active-low = g .active-low;
-          previous-low = g .previous-low;
-          flags-low = flag-low i a 1 (omega arith);
-          states-known = g .states-known;
-          fitting = λ b hb. fit b hb (eqb b a) refl;
-          live = g .live;
-        }
-      where
-        fit : (b : ℕ) → b < banks → (t : Bool) → eqb b a ≡ t → bankFits (f .states b) (allIn images b m) ≡ true
-        fit b hb true e =
-            rw (eqb-true b a e)
-            (fits-part (f .states a) (allIn images a f) (allIn images a m) (g .fitting a (g .active-low)) part (all-grows i a))
-        fit b hb false e = rw (all-other i a 1 b e) (g .fitting b hb)
+    good-marked : (t : Bool) → allIn images a m ≡ t → Good banks images (cond t (withState a acceptedBank m) m)
+    good-marked true full =
+        good-but a (withState a acceptedBank m) (g .active-low) (g .previous-low) (flag-low i a 1 (omega arith)) (λ b e. (rw e, all-other i a 1 b e))
+        (λ l. rw (eq-eqb a a refl) (known-allowed banks a acceptedBank (g .active-low) refl)) (fits-full a (f .states a) _ full) (rw (eq-eqb a a refl))
+    good-marked false part =
+        good-but a m (g .active-low) (g .previous-low) (flag-low i a 1 (omega arith)) (λ b e. (refl, all-other i a 1 b e)) (g .states-known a)
+        (fits-part (f .states a) (allIn images a f) (allIn images a m) (g .fitting a (g .active-low)) part (all-grows i a)) (g .live)
 
     pub good-accepted : Good banks images (acceptedOf images i f)
-    good-accepted = go (allIn images a m) refl
-      where
-        go : (t : Bool) → allIn images a m ≡ t → Good banks images (cond t (withState a acceptedBank m) m)
-        go true e = good-full e
-        go false e = good-part e
+    good-accepted = good-marked (allIn images a m) refl
 
   -- ---- Select previous
   pub good-exchanged : f .states (f .previous-bank) ≡ acceptedBank → Good banks images (exchanged f)

@@ -1,44 +1,41 @@
 -- Every accepted call keeps the record sound, and makes of its fields what its line says. Assumes nothing.
-use mathlib.Core.Path.{_≡_, sym}
+use mathlib.Core.Path.{_≡_, refl, sym, subst}
 use mathlib.Core.Bool.{true}
 use mathlib.Core.List.{List}
 use Prim.Native.Nat.{ℕ, _<_}
 use Rattle.fields.specs.Number.{Bytes}
 use Rattle.record.specs.Layout.{active, bankCount, imageCount}
 use Rattle.record.specs.Rules.{sound}
-use Rattle.record.specs.Sized.{Sized}
-use Rattle.record.proofs.Sound.{sound-sized}
 use Rattle.alterations.specs.Fields.{withCrc}
+use Rattle.alterations.proofs.Stays.{crc-stays}
+use Rattle.changes.specs.Changed.{changedBy, Names}
+use Rattle.changes.specs.declared.Change.{Change}
+use Rattle.changes.specs.declared.Change.the-variants.{Nothing, Begin, Commit, End, Accept, Exchange}
+use Rattle.changes.proofs.Banks.{sized, update-in}
 use Rattle.changes.specs.NewRecord.{updateBankOf, begunRecord, committedRecord, endedRecord, acceptedRecord, exchangedRecord}
-use Rattle.kept_sound.specs.Fields.{Fields, fieldsOf, FieldsAre, FieldsMade, CallsMake}
-use Rattle.kept_sound.specs.Kept.{Kept, KeptSound, CallsKeepSound}
+use Rattle.kept_sound.specs.Fields.{Fields, fieldsOf, FieldsAre, fieldsAfter, CallsMake}
+use Rattle.kept_sound.specs.Kept.{Kept, Asks, CallsKeepSound}
 use Rattle.kept_sound.proofs.Says.{Says, says-crc, crc-agrees}
-use Rattle.kept_sound.proofs.Good.{Good, update-low, update-differs, good-begun, good-committed, good-ended, good-accepted, good-exchanged}
+use Rattle.kept_sound.proofs.Good.{Good, update-differs, good-begun, good-committed, good-ended, good-accepted, good-exchanged}
 use Rattle.kept_sound.proofs.Carried.{good-of, banks-stay, images-stay, types-stay, flag-reads, sound-of}
-use Rattle.kept_sound.proofs.Calls.{begin-says, commit-says, end-says, accept-says, exchange-says}
+use Rattle.kept_sound.proofs.Calls.{told, begin-says, commit-says, end-says, accept-says, exchange-says}
 
 module _ (r : List ℕ) (small : Bytes r) (e : sound r ≡ true) where
-  s : Sized r (bankCount r) (imageCount r)
-  s = sound-sized r e
-
   g : Good (bankCount r) (imageCount r) (fieldsOf r)
   g = good-of r e
 
-  low : updateBankOf r < bankCount r
-  low = update-low (bankCount r) (active r) (s .banks-low)
-
   differs : active r ≡ updateBankOf r → ⊥
-  differs q = update-differs (bankCount r) (active r) (s .banks-low) (g .active-low) (sym q)
+  differs q = update-differs (bankCount r) (active r) (sized r e .banks-low) (g .active-low) (sym q)
 
   -- the record with its CRC worked anew
   module _ (x : List ℕ) (f : Fields) (w : Says r (bankCount r) (imageCount r) x f) where
     finished : Says r (bankCount r) (imageCount r) (withCrc x) f
-    finished = says-crc r (bankCount r) (imageCount r) s x f w
+    finished = says-crc r (bankCount r) (imageCount r) (sized r e) x f w
 
     kept : Good (bankCount r) (imageCount r) f → Kept r (withCrc x)
     kept h =
         record {
-          is-sound = sound-of r (withCrc x) f finished s h e (crc-agrees r (bankCount r) (imageCount r) s x f w);
+          is-sound = sound-of r (withCrc x) f finished (sized r e) h e (crc-agrees r (bankCount r) (imageCount r) (sized r e) x f w);
           bytes = finished .small;
           long = finished .long;
         }
@@ -56,39 +53,45 @@ module _ (r : List ℕ) (small : Bytes r) (e : sound r ≡ true) where
           type-is = types-stay r (withCrc x) f finished;
         }
 
-  all-kept : KeptSound r
-  unfolding begunRecord committedRecord endedRecord acceptedRecord exchangedRecord
-  all-kept =
-      record {
-        begin =
-            kept _ _ (begin-says r small s (g .active-low) (updateBankOf r) low)
-            (good-begun (bankCount r) (imageCount r) (fieldsOf r) g (updateBankOf r) low differs);
-        commit =
-            λ i request hi staged.
-            kept _ _ (commit-says r small s (g .active-low) (updateBankOf r) low i request hi)
-            (good-committed (bankCount r) (imageCount r) (fieldsOf r) g i request (updateBankOf r) staged);
-        end =
-            kept _ _ (end-says r small s (g .active-low) (updateBankOf r) low)
-            (good-ended (bankCount r) (imageCount r) (fieldsOf r) g (updateBankOf r) low);
-        accept =
-            λ i hi.
-            kept _ _ (accept-says r small s (g .active-low) i hi) (good-accepted (bankCount r) (imageCount r) (fieldsOf r) g i);
-        select-previous =
-            λ known.
-            kept _ _ (exchange-says r small s (g .active-low) (g .previous-low))
-            (good-exchanged (bankCount r) (imageCount r) (fieldsOf r) g known);
-      }
+  -- the record that each change makes, before its CRC is worked anew
+  record Made (x : Change) : Type 0 where
+    before : List ℕ
+    is : withCrc before ≡ changedBy x r
+    says : Says r (bankCount r) (imageCount r) before (fieldsAfter x r (fieldsOf r))
 
-  all-made : FieldsMade r
-  unfolding begunRecord committedRecord endedRecord acceptedRecord exchangedRecord
-  all-made =
-      record {
-        begin = reads _ _ (begin-says r small s (g .active-low) (updateBankOf r) low);
-        commit = λ i request hi. reads _ _ (commit-says r small s (g .active-low) (updateBankOf r) low i request hi);
-        end = reads _ _ (end-says r small s (g .active-low) (updateBankOf r) low);
-        accept = λ i hi. reads _ _ (accept-says r small s (g .active-low) i hi);
-        select-previous = reads _ _ (exchange-says r small s (g .active-low) (g .previous-low));
-      }
+  made : (x : Change) → Names x r → Made x
+  unfolding changedBy begunRecord committedRecord endedRecord acceptedRecord exchangedRecord
+  made Nothing h = record { before = r; is = crc-stays r e small; says = told r small (sized r e) }
+  made Begin h = record { before = _; is = refl; says = begin-says r small (sized r e) (g .active-low) (updateBankOf r) (update-in r e) }
+  made (Commit i request) h = record { before = _; is = refl; says = commit-says r small (sized r e) (g .active-low) (updateBankOf r) (update-in r e) i request h }
+  made End h = record { before = _; is = refl; says = end-says r small (sized r e) (g .active-low) (updateBankOf r) (update-in r e) }
+  made (Accept i) h = record { before = _; is = refl; says = accept-says r small (sized r e) (g .active-low) i h }
+  made Exchange h = record { before = _; is = refl; says = exchange-says r small (sized r e) (g .active-low) (g .previous-low) }
+
+  -- the tests of a call give its image, and fields that the rules ask
+  named : (x : Change) → Asks x r → Names x r
+  named Nothing h = tt
+  named Begin h = tt
+  named (Commit i request) h = h .0
+  named End h = tt
+  named (Accept i) h = h
+  named Exchange h = tt
+
+  good : (x : Change) → Asks x r → Good (bankCount r) (imageCount r) (fieldsAfter x r (fieldsOf r))
+  good Nothing h = g
+  good Begin h = good-begun (bankCount r) (imageCount r) (fieldsOf r) g (updateBankOf r) (update-in r e) differs
+  good (Commit i request) h = good-committed (bankCount r) (imageCount r) (fieldsOf r) g i request (updateBankOf r) (h .1)
+  good End h = good-ended (bankCount r) (imageCount r) (fieldsOf r) g (updateBankOf r) (update-in r e)
+  good (Accept i) h = good-accepted (bankCount r) (imageCount r) (fieldsOf r) g i
+  good Exchange h = good-exchanged (bankCount r) (imageCount r) (fieldsOf r) g h
+
+  all-kept : (x : Change) → Asks x r → Kept r (changedBy x r)
+  all-kept x h = let m = made x (named x h) in subst (Kept r) (m .is) (kept (m .before) _ (m .says) (good x h))
+
+  all-made : (x : Change) → Names x r → FieldsAre r (changedBy x r) (fieldsAfter x r (fieldsOf r))
+  all-made x h =
+      let m = made x h in
+      subst (λ (new : List ℕ). FieldsAre r new (fieldsAfter x r (fieldsOf r))) (m .is) (reads (m .before) _ (m .says))
 
 pub kept-sound : CallsKeepSound
 kept-sound r small e = all-kept r small e

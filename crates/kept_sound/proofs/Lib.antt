@@ -7,3 +7,4 @@ pub mod Carried
 pub mod Calls
 pub mod Kept
 pub mod Again
+pub mod Fits

@@ -51,63 +51,47 @@ module _ (r : List ℕ) (banks images : ℕ) (s : Sized r banks images) (x : Lis
   pub says-banks : bankCount x ≡ banks
   says-banks = y .stays 32 (header-elsewhere banks images 32 (inr (omega arith)) (inr (omega arith)) (inr (omega arith)) (omega arith)) ∙ s .banks-is
 
-  -- a word of the header
-  module _ (p v : ℕ) (fits : p + 4 ≤ 40) where
-    word-long : length (put x p (bytes 4 v)) ≡ length r
-    word-long = put-length x p (bytes 4 v) (rw (length-bytes 4 v) (omega (arith, header))) ∙ y .long
-
+  -- a word of the header, before the states, which hold no byte of it
+  module _ (p v : ℕ) (fits : p + 4 ≤ 24) where
     word-beside : (n j : ℕ) → Apart p 4 j n → le n (put x p (bytes 4 v)) j ≡ le n x j
     word-beside n j a = le-beside x p 4 (bytes 4 v) (length-bytes 4 v) (omega (arith, header)) n j a
 
     byte-stays : (k : ℕ) → Outside p 4 k → getD (put x p (bytes 4 v)) k 0 ≡ getD x k 0
     byte-stays k o = byte-beside x p 4 (bytes 4 v) (length-bytes 4 v) (omega (arith, header)) k o
 
-    word-small : Bytes (put x p (bytes 4 v))
-    word-small = put-bytes x p (bytes 4 v) (y .small) (bytes-small 4 v)
-
-    flag-stays : (i b : ℕ) → i < images → b < banks → le 4 (put x p (bytes 4 v)) (acceptedAt banks i b) ≡ f .flags i b
-    flag-stays i b hi hb = word-beside 4 (acceptedAt banks i b) (inl (omega arith)) ∙ y .flag-is i b hi hb
+    says-word : (a q : ℕ) → active (put x p (bytes 4 v)) ≡ a → previous (put x p (bytes 4 v)) ≡ q
+        → ((k : ℕ) → Elsewhere banks images k → Outside p 4 k)
+        → Says r banks images (put x p (bytes 4 v)) (withActive a (withPrevious q f))
+    says-word a q is was off =
+        record {
+          long = put-length x p (bytes 4 v) (rw (length-bytes 4 v) (omega (arith, header))) ∙ y .long;
+          small = put-bytes x p (bytes 4 v) (y .small) (bytes-small 4 v);
+          active-is = is;
+          previous-is = was;
+          state-is = λ c k. byte-stays (24 + c) (inr (omega arith)) ∙ y .state-is c k;
+          flag-is = λ i b hi hb. word-beside 4 (acceptedAt banks i b) (inl (omega arith)) ∙ y .flag-is i b hi hb;
+          stays = λ k e. byte-stays k (off k e) ∙ y .stays k e;
+        }
 
   pub says-active : (b : ℕ) → b < 2 ^ 32 → Says r banks images (setActive b x) (withActive b f)
   unfolding setActive
   says-active b h =
-      record {
-        long = word-long 8 b (omega arith);
-        small = word-small 8 b (omega arith);
-        active-is = read-back 4 x 8 b (omega (arith, header)) (omega arith);
-        previous-is = word-beside 8 b (omega arith) 4 12 (inl (omega arith)) ∙ y .previous-is;
-        state-is = λ c k. byte-stays 8 b (omega arith) (24 + c) (inr (omega arith)) ∙ y .state-is c k;
-        flag-is = flag-stays 8 b (omega arith);
-        stays = λ k e. byte-stays 8 b (omega arith) k (e .off-active) ∙ y .stays k e;
-      }
+      says-word 8 b (omega arith) b (f .previous-bank) (read-back 4 x 8 b (omega (arith, header)) (omega arith))
+      (word-beside 8 b (omega arith) 4 12 (inl (omega arith)) ∙ y .previous-is) (λ k e. e .off-active)
 
   pub says-previous : (b : ℕ) → b < 2 ^ 32 → Says r banks images (setPrevious b x) (withPrevious b f)
   unfolding setPrevious
   says-previous b h =
-      record {
-        long = word-long 12 b (omega arith);
-        small = word-small 12 b (omega arith);
-        active-is = word-beside 12 b (omega arith) 4 8 (inr (omega arith)) ∙ y .active-is;
-        previous-is = read-back 4 x 12 b (omega (arith, header)) (omega arith);
-        state-is = λ c k. byte-stays 12 b (omega arith) (24 + c) (inr (omega arith)) ∙ y .state-is c k;
-        flag-is = flag-stays 12 b (omega arith);
-        stays = λ k e. byte-stays 12 b (omega arith) k (e .off-previous) ∙ y .stays k e;
-      }
+      says-word 12 b (omega arith) (f .active-bank) b (word-beside 12 b (omega arith) 4 8 (inr (omega arith)) ∙ y .active-is)
+      (read-back 4 x 12 b (omega (arith, header)) (omega arith)) (λ k e. e .off-previous)
 
   -- the CRC is no field of f
   pub says-crc : Says r banks images (withCrc x) f
   unfolding withCrc
   says-crc =
       let v = crc32Of (drop 4 x) in
-      record {
-        long = word-long 0 v (omega arith);
-        small = word-small 0 v (omega arith);
-        active-is = word-beside 0 v (omega arith) 4 8 (inl (omega arith)) ∙ y .active-is;
-        previous-is = word-beside 0 v (omega arith) 4 12 (inl (omega arith)) ∙ y .previous-is;
-        state-is = λ c k. byte-stays 0 v (omega arith) (24 + c) (inr (omega arith)) ∙ y .state-is c k;
-        flag-is = flag-stays 0 v (omega arith);
-        stays = λ k e. byte-stays 0 v (omega arith) k (e .off-crc) ∙ y .stays k e;
-      }
+      says-word 0 v (omega arith) (f .active-bank) (f .previous-bank) (word-beside 0 v (omega arith) 4 8 (inl (omega arith)) ∙ y .active-is)
+      (word-beside 0 v (omega arith) 4 12 (inl (omega arith)) ∙ y .previous-is) (λ k e. e .off-crc)
 
   -- and it agrees
   pub crc-agrees : crcRule (withCrc x) ≡ true

@@ -1,5 +1,6 @@
--- A record by its fields: those that the calls alter, and what each call makes of them (document 01, "Session and calls"). Every other byte
--- but the CRC's stays. r is the bytes of the old record, new those of the new one. Assumes nothing.
+-- A record by its fields: those that the calls alter, and what each call makes of them (document 01, "Session and
+-- calls"). Every other byte but the CRC's stays. r is the bytes of the old record, new those of the new one. Assumes
+-- nothing.
 use Prim.Native.Nat.{ℕ, _+_, _≤_, _<_}
 use mathlib.Core.Path.{_≡_}
 use mathlib.Core.Logic.{_⊎_}
@@ -11,7 +12,10 @@ use Rattle.fields.specs.Number.{Bytes}
 use Rattle.record.specs.Every.{below}
 use Rattle.record.specs.Layout.{bankLimit, crcAt, activeAt, previousAt, stateAt, acceptedAt, active, previous, state, bankCount, imageCount, typeGuid, accepted}
 use Rattle.record.specs.Rules.{invalid, valid, acceptedBank, sound}
-use Rattle.changes.specs.NewRecord.{updateBankOf, begunRecord, committedRecord, endedRecord, acceptedRecord, exchangedRecord}
+use Rattle.changes.specs.NewRecord.{updateBankOf}
+use Rattle.changes.specs.Changed.{changedBy, Names}
+use Rattle.changes.specs.declared.Change.{Change}
+use Rattle.changes.specs.declared.Change.the-variants.{Nothing, Begin, Commit, End, Accept, Exchange}
 
 -- the active bank, the previous one, the state of each bank, and whether each image is accepted in each bank
 pub record Fields : Type 0 where
@@ -96,7 +100,8 @@ pub record Elsewhere (banks images k : ℕ) : Type 0 where
   pub off-states : Outside (stateAt 0) bankLimit k
   pub off-flags : (i b : ℕ) → i < images → b < banks → Outside (acceptedAt banks i b) 4 k
 
--- the new record read: it has those fields; each byte elsewhere is the old record's, so it has as many banks and images, of the same types
+-- the new record read: it has those fields; each byte elsewhere is the old record's, so it has as many banks and
+-- images, of the same types
 pub record FieldsAre (r new : List ℕ) (f : Fields) : Type 0 where
   pub active-is : active new ≡ f .active-bank
   pub previous-is : previous new ≡ f .previous-bank
@@ -107,13 +112,16 @@ pub record FieldsAre (r new : List ℕ) (f : Fields) : Type 0 where
   pub images-is : imageCount new ≡ imageCount r
   pub type-is : (i : ℕ) → typeGuid new i ≡ typeGuid r i
 
--- the record that each call makes, read
-pub record FieldsMade (r : List ℕ) : Type 0 where
-  pub begin : FieldsAre r (begunRecord r) (begun (updateBankOf r) (fieldsOf r))
-  pub commit : (i request : ℕ) → i < imageCount r → FieldsAre r (committedRecord i request r) (committed i request (updateBankOf r) (fieldsOf r))
-  pub end : FieldsAre r (endedRecord r) (ended (imageCount r) (updateBankOf r) (fieldsOf r))
-  pub accept : (i : ℕ) → i < imageCount r → FieldsAre r (acceptedRecord i r) (acceptedOf (imageCount r) i (fieldsOf r))
-  pub select-previous : FieldsAre r (exchangedRecord r) (exchanged (fieldsOf r))
+-- what a change makes of them; each call makes one (crates/changes/specs/Changed.antt)
+abbrev pub fieldsAfter : Change → (r : List ℕ) → Fields → Fields
+fieldsAfter Nothing r f = f
+fieldsAfter Begin r f = begun (updateBankOf r) f
+fieldsAfter (Commit i request) r f = committed i request (updateBankOf r) f
+fieldsAfter End r f = ended (imageCount r) (updateBankOf r) f
+fieldsAfter (Accept i) r f = acceptedOf (imageCount r) i f
+fieldsAfter Exchange r f = exchanged f
 
+-- the record that it makes, read
 abbrev pub CallsMake : Type 0
-CallsMake = (r : List ℕ) → Bytes r → sound r ≡ true → FieldsMade r
+CallsMake =
+    (r : List ℕ) → Bytes r → sound r ≡ true → (x : Change) → Names x r → FieldsAre r (changedBy x r) (fieldsAfter x r (fieldsOf r))

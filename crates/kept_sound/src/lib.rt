@@ -1,1 +1,2 @@
-// Every accepted call keeps the record sound: the statements stand in specs/, their proof in proofs/. There is no code here.
+// Every accepted call keeps the record sound: the statements stand in specs/, their proof in proofs/. There is no code
+// here.

@@ -6,7 +6,8 @@ pub const ANSWERS: usize = 240000;
 // What stands behind a reference before a call, so that a refusal that alters it is seen.
 pub const BEFORE: u64 = 99;
 
-// What stands behind a reference, as an answer: with a refusal how it differs from what stood there, so 0 where it is as it was.
+// What stands behind a reference, as an answer: with a refusal how it differs from what stood there, so 0 where it is
+// as it was.
 pub fn behind(number: u32, v: u64, before: u64) -> u64 {
     if number == 0 {
         return v;

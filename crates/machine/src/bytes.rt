@@ -81,37 +81,30 @@ pub fn digest(d: u64, n: u64) -> u64 {
     (d % 4294967291 * 65599 + n % 4294967296 + 1) % 4294967291
 }
 
-// A digest with bytes more: their count, then numbers of four bytes.
-pub fn digest_bytes(m: &[u8], at: usize, count: usize, before: u64) -> u64 {
-    let n = m.len();
-    let mut d = digest(before, count as u64);
-    if n < count {
-        return d;
-    }
-    if n - count < at {
-        return d;
-    }
-    let mut i = 0;
-    while 4 <= count - i {
-        d = digest(d, read32(m, at + i) as u64);
-        i += 4;
-    }
-    if i < count {
-        digest(d, load(m, at + i, count - i))
-    } else {
-        d
-    }
-}
-
-// The CRC-32 of bytes.
-pub fn crc_of(m: &[u8], at: usize, count: usize) -> u64 {
+// The bytes from `at` on, so many; none where they do not all lie inside.
+pub fn part(m: &[u8], at: usize, count: usize) -> &[u8] {
     let n = m.len();
     if n < count {
-        return 0;
+        return &m[0..0];
     }
     if n - count < at {
-        return 0;
+        return &m[0..0];
     }
     let end = at + count;
-    crc::crc32(&m[at..end]) as u64
+    &m[at..end]
+}
+
+// A digest with bytes more: their count, then numbers of four bytes.
+pub fn digest_bytes(s: &[u8], before: u64) -> u64 {
+    let n = s.len();
+    let mut d = digest(before, n as u64);
+    let mut i = 0;
+    while 4 <= n - i {
+        d = digest(d, read32(s, i) as u64);
+        i += 4;
+    }
+    if i < n {
+        return digest(d, load(s, i, n - i));
+    }
+    d
 }

@@ -1,5 +1,6 @@
-// A small stack machine that runs a text, one character an order: the test inputs are made by such scripts, whose lines cost no proof.
-// It is total: what lies outside the memory or the text reads as 0 and is not written. Numbers are modulo 2^64.
+// A small stack machine that runs a text, one character an order: the test inputs are made by such scripts, whose lines
+// cost no proof. It is total: what lies outside the memory or the text reads as 0 and is not written. Numbers are
+// modulo 2^64.
 //
 //   # .. line's end    a comment
 //   blank, newline     ends a number
@@ -29,10 +30,10 @@
 //     h n                  prints n as 8 hexadecimal digits
 //     any other            is the program's own: `step` answers its letter
 //
-// The words w: a variable is the word (letter mod 64), the value stack stands at 64 to 127, frames of two words at 128 to 191 (where to
-// go on, and how many turns are left, 0 for a procedure), procedures' positions at 192 to 255. Both stacks are rings: past the end they go on
-// at the beginning. No letter names the words below.
-// A text between quotes has no `#`, `[`, `(`, `)` or `]` in it.
+// The words w: a variable is the word (letter mod 64), the value stack stands at 64 to 127, frames of two words at 128
+// to 191 (where to go on, and how many turns are left, 0 for a procedure), procedures' positions at 192 to 255. Both
+// stacks are rings: past the end they go on at the beginning. No letter names the words below. A text between quotes
+// has no `#`, `[`, `(`, `)` or `]` in it.
 pub mod answers;
 pub mod bytes;
 
@@ -46,7 +47,8 @@ const NUMBER: usize = 29;
 
 const DRAWS: usize = 30;
 
-// What `step` answers: that it ran an order, that the text is at its end; else the letter of a function of the program's.
+// What `step` answers: that it ran an order, that the text is at its end; else the letter of a function of the
+// program's.
 pub const RAN: u8 = 0;
 
 pub const ENDED: u8 = 1;
@@ -280,7 +282,7 @@ fn over(w: &mut [u64; 256], m: &mut [u8], c: u8) {
             }
         }
         b'm' => bytes::copy(m, z as usize, y, x as usize),
-        _ => push(w, bytes::digest_bytes(m, y, x as usize, z)),
+        _ => push(w, bytes::digest_bytes(bytes::part(m, y, x as usize), z)),
     }
 }
 
@@ -292,7 +294,7 @@ fn function(w: &mut [u64; 256], m: &mut [u8], c: u8) -> u8 {
         b'k' => {
             let n = pop(w) as usize;
             let at = pop(w) as usize;
-            push(w, bytes::crc_of(m, at, n));
+            push(w, crc::crc32(bytes::part(m, at, n)) as u64);
         }
         b'd' => {
             let n = pop(w);

@@ -1,20 +1,19 @@
 -- The place that is computed is the one that document 01's sentence names (specs/Law.antt). Assumes nothing.
 use mathlib.Core.Path.{_≡_, refl, sym, _∙_}
-use mathlib.Core.Bool.{Bool, true, false, cond}
-use mathlib.Core.Logic.{_⊎_, inl, inr, ⊎-elim}
+use mathlib.Core.Bool.{Bool, true, false}
+use mathlib.Core.Logic.{_⊎_, ⊎-elim}
 use mathlib.Core.List.{List}
-use Prim.Native.Nat.{ℕ, zero, suc, _+_, _-_, _<_, _≤_}
+use Prim.Native.Nat.{ℕ, suc, _+_, _-_, _<_, _≤_}
 use native.Mathlib.Omega.{arith}
 use lib.ListN.{length, getD}
 use borrow.Author.Tests.{le-leb, lt-leb}
-use lib.Dec.{leb}
 use Rattle.fields.proofs.Tests.{no-true, le-or-lt}
 use Rattle.descriptors.specs.Reading.{lengthOf, addressOf}
-use Rattle.place.specs.Place.{apart, clearOf, clearOfAll, free, lowest, placeFor}
-use Rattle.place.specs.Law.{Holds, SharesNoByte, Free, LowestFree, NoneFree}
+use Rattle.place.specs.Place.{apart, clearOf, free, placeFor}
+use Rattle.place.specs.Law.{SharesNoByte, Free, LowestFree, NoneFree}
 use Rattle.place.specs.declared.Place.the-variants.{At, Nowhere}
 use Rattle.place.proofs.Ranges.{clear-descriptor, clear-block, clear-each, clear-no-block, clear-both, each-clear}
-use Rattle.place.proofs.Search.{is-free, free-parts, too-low, too-high, found-at, none-before, found-none, lowest-at, lowest-none}
+use Rattle.place.proofs.Search.{is-free, free-parts, found-at, none-before, found-none, lowest-at, lowest-none}
 
 -- ranges that lie side by side share no byte
 side : (p t s n : ℕ) → (p + t ≤ s) ⊎ (s + n ≤ p) → SharesNoByte p t s n

@@ -1,6 +1,6 @@
 -- Ranges that share no byte, and what is clear of the descriptors read. Assumes nothing.
-use mathlib.Core.Path.{_≡_, refl, sym, ap, _∙_}
-use mathlib.Core.Bool.{Bool, true, false, _&&_, _||_, and-false}
+use mathlib.Core.Path.{_≡_, refl}
+use mathlib.Core.Bool.{true, false, _||_, and-false}
 use mathlib.Core.Logic.{_⊎_, inl, inr, ⊎-elim}
 use mathlib.Core.List.{List, [], _∷_}
 use Prim.Native.Nat.{ℕ, zero, suc, _+_, _-_, _<_, _≤_}
@@ -9,8 +9,7 @@ use borrow.Author.Tests.{leb-true, leb-false, lt-leb, eq-eqb, eqb-true, ne-eqb}
 use lib.Dec.{leb, eqb}
 use lib.ListN.{length, getD, take}
 use lib.Seq.{getD-take, length-take-le}
-use Rattle.fields.proofs.Tests.{both, either, neither, same-test, le-or-lt}
-use Rattle.window.specs.Window.{within}
+use Rattle.fields.proofs.Tests.{both, either, neither, same-test}
 use Rattle.descriptors.specs.Reading.{lengthOf, addressOf}
 use Rattle.place.specs.Place.{apart, clearOf, clearOfAll}
 

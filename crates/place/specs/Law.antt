@@ -1,5 +1,5 @@
--- Document 01's sentence on the place without any search, in its own words: what `placeFor` is proved to mean where the total is above
--- 0 (proofs/Law.antt). Names as in specs/Place.antt. Assumes nothing.
+-- Document 01's sentence on the place without any search, in its own words: what `placeFor` is proved to mean where the
+-- total is above 0 (proofs/Law.antt). Names as in specs/Place.antt. Assumes nothing.
 use Prim.Native.Nat.{ℕ, _+_, _≤_, _<_}
 use mathlib.Core.List.{List}
 use lib.ListN.{length, getD}

@@ -1,7 +1,8 @@
--- The place chosen for the gathered blocks (document 01, "The window and the scattered list"): "The place chosen is the lowest start
--- whose range, as long as the total, lies in the window and shares no byte with any block or any descriptor read."
--- w is the window's bytes, B the address of the first, t the total, which is above 0 (6 comes first), ds the addresses of the
--- descriptors read, and p a start: an address, in whole numbers that never wrap. Assumes nothing.
+-- The place chosen for the gathered blocks (document 01, "The window and the scattered list"): "The place chosen is the
+-- lowest start whose range, as long as the total, lies in the window and shares no byte with any block or any
+-- descriptor read." w is the window's bytes, B the address of the first, t the total, which is above 0 (6 comes first),
+-- ds the addresses of the descriptors read, and p a start: an address, in whole numbers that never wrap. Assumes
+-- nothing.
 use Prim.Native.Nat.{ℕ, zero, suc, _+_}
 use mathlib.Core.Bool.{Bool, true, false, cond, _&&_, _||_}
 use mathlib.Core.List.{List, [], _∷_}

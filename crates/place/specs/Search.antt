@@ -1,4 +1,5 @@
--- What the functions below `find_place` promise each other. Nothing here is needed to read an entry's promise. Assumes nothing.
+-- What the functions below `find_place` promise each other. Nothing here is needed to read an entry's promise. Assumes
+-- nothing.
 use Prim.Native.Nat.{ℕ, _≤_, _<_}
 use mathlib.Core.Bool.{Bool, true, false}
 use mathlib.Core.Path.{_≡_}

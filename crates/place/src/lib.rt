@@ -1,5 +1,5 @@
-// The place for the gathered blocks: the lowest free start (document 01, "The window and the scattered list").
-// Where the range at a start shares a byte with a block or a descriptor, so does the range at every start up to that one's
+// The place for the gathered blocks: the lowest free start (document 01, "The window and the scattered list"). Where
+// the range at a start shares a byte with a block or a descriptor, so does the range at every start up to that one's
 // end. So only the window's start and ends of blocks and descriptors are tried, each once: at most 512 starts.
 use descriptors::DESCRIPTOR_LIMIT;
 use fields::read64;
@@ -63,7 +63,8 @@ fn next_start(
     t: usize,
 ) -> usize
     requires { ⌜ (count ≤ 256) × (length (now ds) ≡ 256) × AllReadable (now w) base (now ds) count × (p + t ≤ length (now w)) ⌝ }
-    ensures { λ r. ⌜ NextStart (λ q. clearOfAll (now (w .entry)) base t (base + q) (take count (now (ds .entry)))) (length (now (w .entry))) p r ⌝ }
+    ensures { λ r. ⌜ NextStart (λ q. clearOfAll (now (w .entry)) base t (base + q) (take count (now (ds .entry))))
+        (length (now (w .entry))) p r ⌝ }
 {
     let mut i = 0;
     while i < count {
@@ -84,7 +85,8 @@ pub fn find_place(
     count: usize,
     t: usize,
 ) -> Place
-    requires { ⌜ (count ≤ 256) × (length (now ds) ≡ 256) × AllReadable (now w) base (now ds) count × (base + length (now w) ≤ 2 ^ 64) × (0 < t) ⌝ }
+    requires { ⌜ (count ≤ 256) × (length (now ds) ≡ 256) × AllReadable (now w) base (now ds) count
+        × (base + length (now w) ≤ 2 ^ 64) × (0 < t) ⌝ }
     ensures { λ r. ⌜ r ≡ placeFor (now (w .entry)) base t (take count (now (ds .entry))) ⌝ }
 {
     let n = w.len();

@@ -1,21 +1,30 @@
--- Demand 3 holds for every format and every writer that keep the laws of specs/Format.antt. Assumes nothing.
+-- The theorem holds for every format and every writer that keep the laws of specs/Format.antt. Assumes nothing.
 use mathlib.Core.Path.{_≡_, refl, sym, ap, _∙_}
 use mathlib.Core.Logic.{_⊎_, inl, inr}
-use mathlib.Core.Bool.{true}
-use mathlib.Core.Option.{some}
-use mathlib.Core.List.{List}
+use mathlib.Core.Bool.{Bool, true, false, cond}
+use mathlib.Core.Option.{none, some}
+use mathlib.Core.List.{List, []}
 use Prim.Native.Nat.{ℕ, _≤_, _<_}
 use native.Mathlib.Omega.{arith}
 use native.Mathlib.Decide.{decLe}
-use lib.ListN.{length}
+use lib.ListN.{length, drop}
 use Rattle.fields.specs.Number.{Bytes}
+use Rattle.fields.proofs.Bytes.{take-bytes, drop-bytes}
+use Rattle.fields.proofs.Guid.{same-refl}
 use Rattle.power_cuts.specs.Area.{afterStores, afterCut}
-use Rattle.power_cuts.specs.Format.{Format, FormatLaws, Writer, WriterLaws, Area, copy0, copy1}
-use Rattle.power_cuts.specs.Theorem.{recordRead, BothHold, changeCut, Event, Lasts, Survives, PowerCuts}
-use Rattle.power_cuts.proofs.Parts.{parts-of, State, Settled, state-read, state-area, state-of, settled-state, settled-both}
-use Rattle.power_cuts.proofs.Change.{into0, early, late, settled, all-bytes}
-use Rattle.power_cuts.proofs.Repair.{repair-over}
-use Rattle.power_cuts.proofs.Lists.{lasts}
+use Rattle.power_cuts.specs.Format.{Format, FormatLaws, Writer, WriterLaws, Area, recordOf, soundCopy, copy0, copy1}
+use Rattle.power_cuts.specs.Theorem.{readOf, recordRead, BothHold, sparing, listed, cut, Survives, Stays, PowerCuts, PowerCutsHold}
+use Rattle.power_cuts.proofs.Copy.{Holds, holds-sound}
+use Rattle.power_cuts.proofs.Cut.{read-first, read-second, into0, early, late, last-read, written}
+
+-- no store into a copy that holds the record
+spared : (F : Format) (W : Writer) (c r : List ℕ) → recordOf F c ≡ r → sparing F W c r ≡ []
+unfolding sparing
+spared F W c r e = rw (e, same-refl r)
+
+none-listed : (F : Format) (W : Writer) (a r : List ℕ) → BothHold F r a → listed F W a r ≡ []
+unfolding listed
+none-listed F W a r both = rw (spared F W (copy0 F a) r (both .is0), spared F W (copy1 F a) r (both .is1))
 
 module _ (F : Format) (laws : FormatLaws F) (W : Writer) (w : WriterLaws F W) (a old new : List ℕ) (area : Area F a)
     (both : BothHold F old a) (bytes-new : Bytes new) (sound-new : F .sound new ≡ true) where
@@ -23,65 +32,81 @@ module _ (F : Format) (laws : FormatLaws F) (W : Writer) (w : WriterLaws F W) (a
   abbrev turn : ℕ
   turn = length (into0 F W a new)
 
-  abbrev at : ℕ → List ℕ
-  at n = changeCut F W a new n
+  before : readOf F (copy0 F a) (copy1 F a) ≡ some old
+  before = read-first F old (copy0 F a) (copy1 F a) (record { good = both .sound0; is = both .is0 })
 
-  old-at : (n : ℕ) → n < turn → State F old (at n)
-  old-at n h = early F laws W w a old new area both bytes-new sound-new n h
+  old-at : (n : ℕ) → n < turn → recordRead F (cut F W a new n) ≡ some old
+  old-at n h = early F laws W w a new area bytes-new sound-new old n before (record { good = both .sound1; is = both .is1 }) h
 
-  new-at : (n : ℕ) → turn ≤ n → State F new (at n)
-  new-at n h = late F laws W w a old new area both bytes-new sound-new n h
+  new-at : (n : ℕ) → turn ≤ n → recordRead F (cut F W a new n) ≡ some new
+  new-at n h = late F laws W w a new area bytes-new sound-new n h
 
-  -- before any store the old record is read, whether or not the change has stores
-  none-at : recordRead F (at 0) ≡ some old
-  unfolding changeCut afterCut afterStores recordRead
-  none-at = state-read F old a (settled-state F old a here)
-    where
-      here : Settled F old a
-      here =
-          record {
-            x = copy0 F a;
-            y = copy1 F a;
-            parts = parts-of F a area;
-            holds0 = record { good = both .sound0; is = both .is0 };
-            holds1 = record { good = both .sound1; is = both .is1 };
-          }
+  either-at : (n : ℕ) → Dec (turn ≤ n) → (recordRead F (cut F W a new n) ≡ some old) ⊎ (recordRead F (cut F W a new n) ≡ some new)
+  either-at n (yes h) = inr (new-at n h)
+  either-at n (no h) = inl (old-at n (omega arith))
 
-  either-at : (n : ℕ) → Dec (turn ≤ n) → (recordRead F (at n) ≡ some old) ⊎ (recordRead F (at n) ≡ some new)
-  either-at n (yes h) = inr (state-read F new (at n) (new-at n h))
-  either-at n (no h) = inl (state-read F old (at n) (old-at n (omega arith)))
+  -- before any store the old record is read, whether or not there are stores
+  none-at : recordRead F (cut F W a new 0) ≡ some old
+  unfolding cut afterCut afterStores recordRead
+  none-at = before
 
-  kept-at : (n : ℕ) → Dec (turn ≤ n) → length (at n) ≡ length a
-  kept-at n (yes h) = state-area F new (at n) (new-at n h) .long ∙ sym (area .long)
-  kept-at n (no h) = state-area F old (at n) (old-at n (omega arith)) .long ∙ sym (area .long)
+  later-at : (n m : ℕ) → n ≤ m → recordRead F (cut F W a new n) ≡ some new → Dec (turn ≤ m) → recordRead F (cut F W a new m) ≡ some new
+  later-at n m h e (yes j) = new-at m j
+  later-at n m h e (no j) = old-at m (omega arith) ∙ sym (old-at n (omega arith)) ∙ e
 
-  later-at : (n m : ℕ) → n ≤ m → recordRead F (at n) ≡ some new → Dec (turn ≤ m) → recordRead F (at m) ≡ some new
-  later-at n m h e (yes j) = state-read F new (at m) (new-at m j)
-  later-at n m h e (no j) =
-      state-read F old (at m) (old-at m (omega arith)) ∙ sym (state-read F old (at n) (old-at n (omega arith))) ∙ e
-
-  lasts-at : (n : ℕ) (es : List Event) → Dec (turn ≤ n) → Lasts F W (at n) es
-  lasts-at n es (yes h) = lasts F laws W w new (at n) es (new-at n h)
-  lasts-at n es (no h) = lasts F laws W w old (at n) es (old-at n (omega arith))
-
-  survives : (n : ℕ) (es : List Event) → Survives F W a old new n es
-  survives n es =
+  survives : (n : ℕ) → Survives F W a old new n
+  survives n =
       record {
         either = either-at n (decLe turn n);
-        first = λ e. ap (λ (k : ℕ). recordRead F (at k)) e ∙ none-at;
-        last = λ h.
-            let s : Settled F new (at n) = settled F laws W w a old new area both bytes-new sound-new n h in
-            (state-read F new (at n) (settled-state F new (at n) s), settled-both F new (at n) s);
-        area = λ h. all-bytes F laws W w a old new area both bytes-new sound-new n h;
-        kept = kept-at n (decLe turn n);
+        first = λ e. ap (λ (k : ℕ). recordRead F (cut F W a new k)) e ∙ none-at;
+        last = λ h. last-read F laws W w a new area bytes-new sound-new n h;
         later = λ m h e. later-at n m h e (decLe turn m);
-        lasts = lasts-at n es (decLe turn n);
+        written = written F laws W w a new area bytes-new sound-new n;
       }
 
-pub power-cuts : (F : Format) → FormatLaws F → (W : Writer) → WriterLaws F W → PowerCuts F W
+-- ---- the record that is read
+record-bytes : (F : Format) (r c : List ℕ) → Bytes c → Holds F r c → Bytes r
+unfolding recordOf
+record-bytes F r c b h = rw (h .is) at (take-bytes (F .sizeOf c) c b)
+
+module _ (F : Format) (laws : FormatLaws F) (W : Writer) (w : WriterLaws F W) (a r : List ℕ) (n : ℕ) (area : Area F a) where
+  -- from copy 0: no store goes there
+  stays0 : Holds F r (copy0 F a) → Stays F W a r n
+  stays0 h =
+      let b : Bytes r = record-bytes F r (copy0 F a) (take-bytes (F .copySize) a (area .bytes)) h in
+      let s = holds-sound F r (copy0 F a) h in
+      record {
+        reads = late F laws W w a r area b s n (rw (spared F W (copy0 F a) r (h .is)) (omega arith));
+        written = written F laws W w a r area b s n;
+      }
+
+  -- from copy 1, where copy 0 is unsound: unsound until the last store into it, and then it holds the record too
+  stays1 : soundCopy F (copy0 F a) ≡ false → Holds F r (copy1 F a) → Stays F W a r n
+  stays1 u h =
+      let b : Bytes r =
+      record-bytes F r (copy1 F a) (take-bytes (F .copySize) (drop (F .copySize) a) (drop-bytes (F .copySize) a (area .bytes))) h in
+      let s = holds-sound F r (copy1 F a) h in
+      record { reads = go b s (decLe (length (into0 F W a r)) n); written = written F laws W w a r area b s n }
+    where
+      go : Bytes r → F .sound r ≡ true → Dec (length (into0 F W a r) ≤ n) → recordRead F (cut F W a r n) ≡ some r
+      go b s (yes k) = late F laws W w a r area b s n k
+      go b s (no k) = early F laws W w a r area b s r n (read-second F r (copy0 F a) (copy1 F a) u h) h (omega arith)
+
+  stays : recordRead F a ≡ some r → Stays F W a r n
+  unfolding recordRead readOf
+  stays e = go (soundCopy F (copy0 F a)) (soundCopy F (copy1 F a)) refl refl e
+    where
+      go : (s t : Bool) → soundCopy F (copy0 F a) ≡ s → soundCopy F (copy1 F a) ≡ t
+          → cond s (some (recordOf F (copy0 F a))) (cond t (some (recordOf F (copy1 F a))) none) ≡ some r
+          → Stays F W a r n
+      go true t p q e = stays0 (record { good = p; is = cc })
+      go false true p q e = stays1 p (record { good = q; is = cc })
+      go false false p q e = absurd (let z : _≡_ {A = ℕ} 0 1 = cc in omega arith)
+
+pub power-cuts : PowerCutsHold
 power-cuts F laws W w =
     record {
-      change = λ a old new n es area both bytes-new sound-new. survives F laws W w a old new area both bytes-new sound-new n es;
-      anywhere = λ a r es area e. lasts F laws W w r a es (state-of F r a area e);
-      repair = λ a r n area e h. repair-over F laws W w r a n (state-of F r a area e) h;
+      change = λ a old new n area both bytes-new sound-new. survives F laws W w a old new area both bytes-new sound-new n;
+      restore = λ a r n area e. stays F laws W w a r n area e;
+      none = λ a r both. none-listed F W a r both;
     }

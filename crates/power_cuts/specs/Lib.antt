@@ -1,6 +1,5 @@
--- Power cuts: an area under stores, a record's format, and the theorem. Assumes nothing.
+-- Power cuts over a record's format alone: an area under stores, what is asked of a format and of a writer, and the
+-- theorem. Assumes nothing.
 pub mod Area
 pub mod Format
 pub mod Theorem
-pub mod Version2
-pub mod Offsets

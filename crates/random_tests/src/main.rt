@@ -1,7 +1,6 @@
-// Random inputs for every entry, and digests of what the exported functions answer. The file stdin is a script for crate entry_machine, which
-// makes the inputs of second/GENERATORS.md; the file stdout is what the second implementation (second/) prints for the same seed.
+// Random inputs for every entry, and digests of what the exported functions answer. The file stdin is a script for
+// crate entry_machine, which makes the inputs of second/GENERATORS.md; the file stdout is what the second
+// implementation (second/) prints for the same seed.
 fn main() {
-    let mut text = [0u8; 65536];
-    let n = io::read_full(0, &mut text);
-    entry_machine::play(&mut text[..n]);
+    entry_machine::play();
 }

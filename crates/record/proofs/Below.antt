@@ -1,12 +1,11 @@
 -- Laws of a test at every number below a limit, and of the least number at which it holds. Assumes nothing.
-use mathlib.Core.Path.{_≡_, refl, sym, ap, _∙_}
-use mathlib.Core.Bool.{Bool, true, false, cond, _&&_, and-false}
+use mathlib.Core.Path.{_≡_, refl, sym}
+use mathlib.Core.Bool.{Bool, true, false, and-false}
 use mathlib.Core.Logic.{⊎-elim}
 use Prim.Native.Nat.{ℕ, zero, suc, _+_, _≤_, _<_}
 use native.Mathlib.Numerals.{add-one}
 use native.Mathlib.Omega.{arith}
 use borrow.Author.Tests.{le-ltb, lt-ltb}
-use lib.Dec.{ltb}
 use Rattle.fields.proofs.Tests.{both, le-or-lt}
 use Rattle.record.specs.Every.{below, least}
 
@@ -42,6 +41,23 @@ below-each test zero i e h = absurd (omega arith)
 below-each test (suc n) i e h =
     let p = both (below n test) (test n) e in
     ⊎-elim (λ le. let z : i ≡ n = omega arith in rw z (p .1)) (λ lt. below-each test n i (p .0) lt) (le-or-lt n i)
+
+-- ---- a loop that tests the numbers below n: those below i hold
+pub record Passed (test : ℕ → Bool) (n i : ℕ) : Type 0 where
+  pub low : i ≤ n
+  pub all : below i test ≡ true
+
+pub passed-none : {test : ℕ → Bool} {n : ℕ} → Passed test n 0
+passed-none {test} = record { low = omega arith; all = below-none test }
+
+pub passed-more : {test : ℕ → Bool} {n i : ℕ} → Passed test n i → i < n → test i ≡ true → Passed test n (i + 1)
+passed-more {test} {n} {i} p h e = record { low = omega arith; all = below-more test i (p .all) e }
+
+pub passed-stop : {test : ℕ → Bool} {n i : ℕ} → Passed test n i → i < n → test i ≡ false → below n test ≡ false
+passed-stop {test} {n} {i} p h e = below-stop test n i h e
+
+pub passed-all : {test : ℕ → Bool} {n i : ℕ} → Passed test n i → n ≤ i → below n test ≡ true
+passed-all {test} {n} {i} p h = let z : i ≡ n = omega (arith, p .low) in rw z at (p .all)
 
 -- ---- the least: none below 0, none below i + 1, and the one after none
 pub least-none : (test : ℕ → Bool) → least 0 test ≡ 0

@@ -1,16 +1,16 @@
 -- What a sound record is known by. Assumes nothing.
 use mathlib.Core.Path.{_≡_, refl, sym, ap, _∙_}
-use mathlib.Core.Bool.{Bool, true, false, _&&_, and-assoc}
+use mathlib.Core.Bool.{Bool, true, false, _&&_, and-assoc, and-false}
 use mathlib.Core.List.{List, [], _∷_}
-use Prim.Native.Nat.{ℕ, zero, suc, _+_, _*_, _≤_, _<_}
-use native.Mathlib.Omega.{arith}
+use Prim.Native.Nat.{ℕ, zero, suc, _≤_, _<_}
 use borrow.Author.Tests.{eqb-true, leb-true, ltb-true}
 use lib.Dec.{eqb, leb, ltb}
 use lib.ListN.{length, take, drop}
-use Rattle.fields.proofs.Tests.{both}
-use Rattle.record.specs.Layout.{imageLimit, bankLimit, version, active, previous, size, bankCount, imageCount, recordSize}
-use Rattle.record.specs.Rules.{versionRule, bankCountRule, imageCountRule, sizeRule, banksNamedRule, rules, each, sound}
+use Rattle.fields.proofs.Tests.{no-true, both}
+use Rattle.record.specs.Layout.{headerSize, imageLimit, bankLimit, crc, version, active, previous, size, bankCount, imageCount, recordSize}
+use Rattle.record.specs.Rules.{versionRule, bankCountRule, imageCountRule, sizeRule, banksNamedRule, crcOf, crcRule, rules, each, sound}
 use Rattle.record.specs.Sized.{Sized, firstSix, lastEight}
+use Rattle.record.proofs.Sizes.{header-in}
 
 -- tests in two parts
 pub each-split : (r : List ℕ) (n : ℕ) (tests : List (List ℕ → Bool)) → (each (take n tests) r && each (drop n tests) r) ≡ each tests r
@@ -54,9 +54,13 @@ sized-of r e =
 pub six-of : (r : List ℕ) → sound r ≡ true → firstSix r ≡ true
 six-of r e = both (firstSix r) (lastEight r) (sound-split r ∙ e) .0
 
--- a sound record is as long as its counts say, its version is 2, its size is its length, and it names banks that it has
+-- a sound record is as long as its counts say, has its header, its version is 2, its size is its length, and it names
+-- banks that it has
 pub sound-sized : (r : List ℕ) → sound r ≡ true → Sized r (bankCount r) (imageCount r)
 sound-sized r e = sized-of r (six-of r e)
+
+pub sound-long : (r : List ℕ) → sound r ≡ true → headerSize ≤ length r
+sound-long r e = header-in r (bankCount r) (imageCount r) (sound-sized r e)
 
 pub sound-version : (r : List ℕ) → sound r ≡ true → version r ≡ 2
 unfolding sound versionRule
@@ -77,3 +81,20 @@ named-of r e =
 pub sound-named : (r : List ℕ) → sound r ≡ true → (active r < bankCount r) × (previous r < bankCount r)
 unfolding sound
 sound-named r e = named-of r (all-of rules r e .1 .1 .1 .1 .1 .1 .1 .1 .0)
+
+-- its CRC is the one that it has
+pub sound-crc : (r : List ℕ) → sound r ≡ true → crc r ≡ crcOf r
+unfolding sound crcRule
+sound-crc r e = eqb-true (crc r) (crcOf r) (all-of rules r e .1 .1 .1 .1 .1 .1 .1 .1 .1 .1 .1 .1 .1 .0)
+
+-- one test that fails
+abbrev pub testAt : ℕ → List (List ℕ → Bool) → List ℕ → Bool
+testAt n [] r = true
+testAt zero (t ∷ ts) r = t r
+testAt (suc n) (t ∷ ts) r = testAt n ts r
+
+pub each-stop : (n : ℕ) (tests : List (List ℕ → Bool)) (r : List ℕ) → testAt n tests r ≡ false → each tests r ≡ false
+each-stop zero [] r e = absurd (no-true (sym e))
+each-stop (suc n) [] r e = absurd (no-true (sym e))
+each-stop zero (t ∷ ts) r e = rw e
+each-stop (suc n) (t ∷ ts) r e = rw (each-stop n ts r e, and-false)

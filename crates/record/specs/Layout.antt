@@ -1,5 +1,5 @@
--- Record version 2: where each field stands (document 01, "The record"). r is the bytes of a record, the first at offset 0. The definitions
--- take sizes, limits and offsets from here. Assumes nothing.
+-- Record version 2: where each field stands (document 01, "The record"). r is the bytes of a record, the first at
+-- offset 0. The definitions take sizes, limits and offsets from here. Assumes nothing.
 use Prim.Native.Nat.{ℕ, _+_, _*_, _%_}
 use mathlib.Core.Bool.{cond}
 use mathlib.Core.List.{List}
@@ -14,6 +14,9 @@ areaSize = 16384
 
 abbrev pub copySize : ℕ
 copySize = 8192
+
+abbrev pub copyAt : ℕ → List ℕ → List ℕ
+copyAt base a = take copySize (drop base a)
 
 abbrev pub copy0 : List ℕ → List ℕ
 copy0 a = take copySize a
@@ -131,9 +134,9 @@ accepted r i b = le 4 r (acceptedAt (bankCount r) i b)
 abbrev pub reserved : List ℕ → ℕ → ℕ → ℕ
 reserved r i b = le 4 r (reservedAt (bankCount r) i b)
 
--- the record in a copy: as many bytes as its size says, and the header in any case, so that its fields can be judged. Where the size is
--- right it is never below the header's. Where it is above 8,192, `take` stops at the copy's end: the record is then shorter than its size
--- says, and rule 6 fails
+-- the record in a copy: as many bytes as its size says, and the header in any case, so that its fields can be judged.
+-- Where the size is right it is never below the header's. Where it is above 8,192, `take` stops at the copy's end: the
+-- record is then shorter than its size says, and rule 6 fails
 unfoldable pub recordOf : List ℕ → List ℕ
 recordOf c = take (cond (leb headerSize (size c)) (size c) headerSize) c
 

@@ -1,5 +1,5 @@
--- When a copy is sound (document 01, "The record": "A copy is sound exactly if: .."): fourteen rules, in the order in which semicolons part
--- them, each over the bytes r of a record alone. Assumes nothing.
+-- When a copy is sound (document 01, "The record": "A copy is sound exactly if: .."): fourteen rules, in the order in
+-- which semicolons part them, each over the bytes r of a record alone. Assumes nothing.
 use Prim.Native.Nat.{ℕ}
 use mathlib.Core.Bool.{Bool, true, cond, not, _&&_, _||_}
 use mathlib.Core.List.{List, [], _∷_}
@@ -8,7 +8,9 @@ use lib.ListN.{length, drop}
 use Rattle.fields.specs.Guid.{same}
 use Rattle.crc.specs.Crc.{crc32Of}
 use Rattle.record.specs.Every.{below}
-use Rattle.record.specs.Layout.{imageLimit, bankLimit, versionAt, crc, version, active, previous, size, descriptorOffset, reserved22, state, reserved28, bankCount, reserved33, imageCount, imageEntrySize, bankEntrySize, entrySize, recordSize, typeGuid, accepted, reserved, recordOf}
+use Rattle.record.specs.Layout.{imageLimit, bankLimit, versionAt, crc, version, active, previous, size, descriptorOffset}
+use Rattle.record.specs.Layout.{reserved22, state, reserved28, bankCount, reserved33, imageCount, imageEntrySize, bankEntrySize}
+use Rattle.record.specs.Layout.{entrySize, recordSize, typeGuid, accepted, reserved, recordOf}
 
 -- 1: "version is 2"
 unfoldable pub versionRule : List ℕ → Bool
@@ -30,8 +32,8 @@ bankEntrySizeRule r = eqb (bankEntrySize r) 24
 unfoldable pub imageEntrySizeRule : List ℕ → Bool
 imageEntrySizeRule r = eqb (imageEntrySize r) (entrySize (bankCount r))
 
--- 6: "size 40 + images x entry size"; and the record is as many bytes long. `recordOf` takes so many from a copy where the size is from 40 to 8,192;
--- a larger one fails here
+-- 6: "size 40 + images x entry size"; and the record is as many bytes long. `recordOf` takes so many from a copy where
+-- the size is from 40 to 8,192; a larger one fails here
 unfoldable pub sizeRule : List ℕ → Bool
 sizeRule r = eqb (size r) (recordSize (bankCount r) (imageCount r)) && eqb (length r) (size r)
 

@@ -1,5 +1,6 @@
--- What the functions on entries ask of each other: the counts of banks and images, and the length that rules 2, 3 and 6 give; the rules in
--- two parts, as the code tests them. Nothing here is needed to read the rules or an entry's promise. Assumes nothing.
+-- What the functions on entries ask of each other: the counts of banks and images, and the length that rules 2, 3 and 6
+-- give; the rules in two parts, as the code tests them. Nothing here is needed to read the rules or an entry's promise.
+-- Assumes nothing.
 use Prim.Native.Nat.{ℕ, _+_, _≤_}
 use mathlib.Core.Bool.{Bool}
 use lib.Dec.{leb}

@@ -39,7 +39,8 @@ pub enum Refusal {
     NotSoundAndEqual,
     // The store slice is too short.
     StoreSlice,
-    // A Staging session whose bank is not the update bank or not 255, or whose set has a bit at or past the image count.
+    // A Staging session whose bank is not the update bank or not 255, or whose set has a bit at or past the image
+    // count.
     StagingFault,
     // The session is not among those named for the call, or the previous bank to be selected is not 252.
     SessionState,

@@ -1,5 +1,6 @@
--- The starred samples of document 01 ("Samples on the rail"), 1 to 7 and 9 to 11, as one table under a single claim. A sample
--- of another kind joins as one more constructor of `Sample`, one more line of `holds` and its rows. Assumes nothing.
+-- The starred samples of document 01 ("Samples on the rail"), 1 to 7 and 9 to 11, as one table under a single claim. A
+-- sample of another kind joins as one more constructor of `Sample`, one more line of `holds` and its rows. Assumes
+-- nothing.
 use Prim.Native.Nat.{ℕ, _-_, _^_}
 use mathlib.Core.Bool.{Bool, true, false, _&&_}
 use mathlib.Core.List.{List, [], _∷_}
@@ -71,5 +72,7 @@ table =
     ∷ []
 
 pub samples : all table ≡ true
-unfolding all holds same step steps withByte withBytes crc32Of window descriptors bytes le put within lengthOf addressOf descriptorFits withDescriptor jumpOrEnd dataBlock walk reading apart clearOf clearOfAll free lowest placeFor block blocks copiedTo finished gathered
+unfolding all holds same step steps withByte withBytes crc32Of window descriptors bytes le put within lengthOf addressOf
+    descriptorFits withDescriptor jumpOrEnd dataBlock walk reading apart clearOf clearOfAll free lowest placeFor block blocks
+    copiedTo finished gathered
 samples = refl

@@ -1,38 +1,31 @@
 -- End, image by image (specs/CallLaws.antt). Assumes nothing.
 use mathlib.Core.Path.{_≡_, refl}
-use mathlib.Core.List.{List}
+use mathlib.Core.List.{List, [], _∷_}
 use Prim.Native.Nat.{ℕ}
 use native.Mathlib.Omega.{arith}
-use lib.ListN.{length}
 use Rattle.record.specs.Layout.{imageCount}
-use Rattle.admission.proofs.Held.{held-sound, changeable-held}
+use Rattle.copies.proofs.Reading.{equal-sound}
 use Rattle.committed_set.proofs.Known.{known}
 use Rattle.committed_set.proofs.SetLaws.{missing-law, none-absent}
+use Rattle.verdicts.specs.Decide.{accepted, decide}
+use Rattle.verdicts.proofs.Decide.{same-after}
 use Rattle.session.specs.declared.Session.{Session}
-use Rattle.session.specs.declared.Session.the-variants.{Staging}
-use Rattle.session.specs.Outcome.{Decision, accepted, refusal}
-use Rattle.session.specs.Calls.{Result, held, admission, ifAdmitted, called, endLine, endCall}
-use Rattle.session.specs.Admitted.{Admitted}
-use Rattle.session.specs.CallLaws.{endLineByImages, CallLaws}
-use Rattle.session.proofs.Admission.{staged-below, admitted}
+use Rattle.session.specs.declared.Session.the-variants.{Regular, Staging, Trial, Fallback, Restart}
+use Rattle.changes.specs.Changed.{end}
+use Rattle.session.specs.Calls.{held, sessionTest, commonTests, ownTests, tests}
+use Rattle.session.specs.CallLaws.{absentTest, CallLaws}
+use Rattle.session.proofs.Answered.{common-held, common-below}
 
-end-law : (bank set : ℕ) (a s : List ℕ) → Admitted (Staging bank set) a s → endLine (Staging bank set) a s ≡ endLineByImages bank set a s
-unfolding endLine endLineByImages
-end-law bank set a s p =
-    let r = held a in
-    let k = known r (held-sound a (changeable-held a s (p .change))) in
-    rw (missing-law set r (omega (arith, k .images-high)) (staged-below bank set r (p .staging)), none-absent (imageCount r) set)
-
--- two lines that agree where a call is admitted are one to it
-same-called : (q : Session) (a s : List ℕ) (x y : Result) → (Admitted q a s → x ≡ y) → called q a s x ≡ called q a s y
-unfolding called ifAdmitted
-same-called q a s x y h = go (admission q a (length s)) refl
-  where
-    go : (d : Decision) → d ≡ admission q a (length s) → ifAdmitted d q s x ≡ ifAdmitted d q s y
-    go accepted e = h (admitted q a s e)
-    go (refusal number values) e = refl
+own-law : (q : Session) (a : List ℕ) (n : ℕ) → accepted ≡ decide (commonTests q a n) → decide (ownTests end q (held a)) ≡ decide (sessionTest end q ∷ absentTest q (held a) ∷ [])
+unfolding decide ownTests
+own-law (Staging bank set) a n e =
+    let k = known (held a) (equal-sound a (common-held (Staging bank set) a n e .1)) in
+    rw (missing-law set (held a) (omega (arith, k .images-high)) (common-below (Staging bank set) bank set a n refl e), none-absent (imageCount (held a)) set)
+own-law Regular a n e = refl
+own-law Trial a n e = refl
+own-law Fallback a n e = refl
+own-law Restart a n e = refl
 
 pub call-laws : CallLaws
-unfolding endCall
-call-laws =
-    record { end = λ bank set a s. same-called (Staging bank set) a s (endLine (Staging bank set) a s) (endLineByImages bank set a s) (end-law bank set a s) }
+unfolding tests
+call-laws = record { end-by-images = λ q a n. same-after (commonTests q a n) (ownTests end q (held a)) _ (own-law q a n) }

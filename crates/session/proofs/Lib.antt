@@ -1,5 +1,4 @@
 -- Laws of the calls, for the proofs here and in the crates above.
-pub mod Admission
-pub mod Lines
 pub mod Named
+pub mod Answered
 pub mod CallLaws

@@ -1,26 +1,34 @@
-// The session, the answer of start-up, repair and the calls, and the six calls (document 01, "Session and calls"). Each call tests in the
-// order of "When the bench says no", 20, 23, 21, 22, 24 and then its own line's 25, 26 and 27; a refusal hands the session back as it
-// was, with no list. Which sessions a call names is here; the call of one that is named, over what the session carries, is in crates
-// staging_calls and trial_calls.
-use admission::admit_staged;
-use gates::Gate;
-use gates::Line;
-use gates::admit_area;
+// The session, the answer of the calls, and the six calls (document 01, "Session and calls"). Each call tests in the
+// order of "When the bench says no": what is tested for every session first, once and before the call looks at which
+// session it is, then its own; a refusal hands the session back as it was, with no list.
+use admission::admit_area;
+use call_alterations::alteration_for;
+use change_lists::list_change;
+use changes::Change;
+use changes::all_accepted_after;
+use changes::image_of;
+use changes::previous_accepted;
+use changes::update_bank;
+use committed_set::missing_images;
+use committed_set::staged;
+use committed_set::with_image;
+use copies::held_record;
+use record::image_count;
 use refusals::Refusal;
-use staging_calls::begin_regular;
-use staging_calls::begin_staging;
-use staging_calls::cancel_call;
-use staging_calls::commit_call;
-use staging_calls::end_call;
-use trial_calls::accept_call;
-use trial_calls::select_call;
+use verdicts::Verdict;
 ghost use mathlib.Core.Path.{_≡_};
+ghost use mathlib.Core.Bool.{true};
+ghost use Prim.Native.Nat.{_<_};
+ghost use Rattle.record.specs.Layout.{imageCount};
+ghost use Rattle.record.specs.Rules.{sound};
+ghost use Rattle.change_lists.specs.Lists.{Changeable};
+ghost use Rattle.changes.specs.Changed.{begin, commit, end, cancel, accept, selectPrevious, changedBy, Names};
+ghost use Rattle.verdicts.specs.Decide.{decide, decisionOf};
 ghost use Rattle.session.specs.Outcome.{outcomeOf, refusedWith, acceptedWith};
-ghost use Rattle.session.specs.Calls.{admission, beginCall, commitCall, endCall, cancelCall, acceptCall, selectPreviousCall};
-ghost use Rattle.session.specs.Admitted.{gateDecision, unnamed, lineOutcome};
+ghost use Rattle.session.specs.Calls.{commonTests, held, afterAccept, changedTo, answered};
 
-// "Five session states: Regular, Staging, Trial, Fallback, Restart. Staging carries its bank and a 32-bit set of committed
-// images."
+// "Five session states: Regular, Staging, Trial, Fallback, Restart. Staging carries its bank and a 32-bit set of
+// committed images."
 pub enum Session {
     Regular,
     Staging { bank: u32, set: u32 },
@@ -29,15 +37,7 @@ pub enum Session {
     Restart,
 }
 
-// Whether a call was accepted, and if not, why.
-pub enum Verdict {
-    Accepted,
-    Refused(Refusal),
-}
-
-// The next session, or on a refusal the session as it was; the verdict; and how many pairs stand in the store list. Start-up and repair are given
-// no session: where they have none to answer, which is in start-up's refusals and in every answer of repair, they show Restart, and a caller must
-// not take it for the next session.
+// The next session, or on a refusal the session as it was; the verdict; and how many pairs stand in the store list.
 pub struct Answer {
     pub session: Session,
     pub verdict: Verdict,
@@ -68,119 +68,160 @@ impl Answer {
     }
 }
 
+// The change is made: its stores are listed, and the call leads to `next`.
+fn changed(next: Session, area: &[u8], change: Change, out: &mut [u32]) -> Answer
+    requires { ⌜ Changeable (now area) (now out) × Names change (held (now area)) ⌝ }
+    ensures { λ r. ⌜ (outcomeOf r, now (out .exit))
+        ≡ changedTo (next, changedBy change (held (now (area .entry)))) (now (area .entry)) (now (out .entry)) ⌝ }
+{
+    let x = alteration_for(held_record(area), change);
+    let stores = list_change(area, x, out);
+    Answer::accepted(next, stores)
+}
+
+// Where Accept of image i leads: Regular once every image of the active bank is accepted, else Trial.
+fn after_accept(r: &[u8], i: usize) -> Session
+    requires { ⌜ (sound (now r) ≡ true) × (i < imageCount (now r)) ⌝ }
+    ensures { λ q. ⌜ q ≡ afterAccept i (now (r .entry)) ⌝ }
+{
+    if all_accepted_after(r, i) {
+        return Session::Regular;
+    }
+    Session::Trial
+}
+
 impl Session {
-    // 20, 23, 21, 22 and 24, in that order, of a session that the call does not name; of one that it names staging_calls and trial_calls test them.
-    fn admit(self, area: &[u8], numbers: usize) -> Gate
-        ensures { λ g. ⌜ gateDecision g ≡ admission self (now (area .entry)) numbers ⌝ }
+    // 20, 23, 21, 22 and 24, in that order.
+    fn admit(self, area: &[u8], numbers: usize) -> Verdict
+        ensures { λ v. ⌜ decisionOf v ≡ decide (commonTests self (now (area .entry)) numbers) ⌝ }
     {
-        if let Session::Staging { bank, set } = self {
-            return admit_staged(area, numbers, bank, set);
+        let verdict = admit_area(area, numbers);
+        if let Verdict::Refused(_) = verdict {
+            return verdict;
         }
-        admit_area(area, numbers)
+        if let Session::Staging { bank, set } = self {
+            if !staged(held_record(area), bank, set) {
+                return Verdict::Refused(Refusal::StagingFault);
+            }
+            return Verdict::Accepted;
+        }
+        Verdict::Accepted
     }
 
-    // 25, "session not among those named for the call", where none of 20, 23, 21, 22 and 24 comes before it.
-    fn not_named(self, area: &[u8], numbers: usize) -> Answer
-        ensures { λ r. ⌜ outcomeOf r ≡ (self, unnamed (admission self (now (area .entry)) numbers), 0) ⌝ }
+    // "Begin (Regular, Staging)". Lists in `out` the stores of the change: pairs of an offset and a word, to be done in
+    // list order. Numbers past the list stay, and on a refusal every number does. So with each call.
+    pub fn begin(self, area: &[u8], out: &mut [u32]) -> Answer
+        ensures { λ r. ⌜ (outcomeOf r, now (out .exit)) ≡ answered begin self (now (area .entry)) (now (out .entry)) ⌝ }
     {
-        let gate = self.admit(area, numbers);
-        if let Gate::Shut(why) = gate {
+        let verdict = self.admit(area, out.len());
+        if let Verdict::Refused(why) = verdict {
             return Answer::refused(self, why);
         }
-        Answer::refused(self, Refusal::SessionState)
-    }
-
-    // The answer that a call over numbers leads to.
-    fn answered(self, line: Line) -> Answer
-        ensures { λ r. ⌜ outcomeOf r ≡ lineOutcome self line ⌝ }
-    {
-        match line {
-            Line::Refused(why) => {
-                return Answer::refused(self, why);
-            }
-            Line::Regular(stores) => {
-                return Answer::accepted(Session::Regular, stores);
-            }
-            Line::Staging { bank, set, stores } => {
-                return Answer::accepted(Session::Staging { bank, set }, stores);
-            }
-            Line::Trial(stores) => {
-                return Answer::accepted(Session::Trial, stores);
-            }
-            Line::Restart(stores) => {
-                return Answer::accepted(Session::Restart, stores);
-            }
-        }
-    }
-
-    // "Begin (Regular, Staging)". Lists in `out` the stores of the change: pairs of an offset and a word, to be done in list order. Numbers past the
-    // list stay, and on a refusal every number does. So with each call.
-    pub fn begin(self, area: &[u8], out: &mut [u32]) -> Answer
-        ensures { λ r. ⌜ (outcomeOf r, now (out .exit)) ≡ beginCall self (now (area .entry)) (now (out .entry)) ⌝ }
-    {
         match self {
-            Session::Regular => {
-                return self.answered(begin_regular(area, out));
-            }
-            Session::Staging { bank, set } => {
-                return self.answered(begin_staging(area, bank, set, out));
+            Session::Regular | Session::Staging { bank: _, set: _ } => {
+                let bank = update_bank(held_record(area)) as u32;
+                return changed(Session::Staging { bank, set: 0 }, area, Change::Begin, out);
             }
             _ => {
-                return self.not_named(area, out.len());
+                return Answer::refused(self, Refusal::SessionState);
             }
         }
     }
 
     // "Commit (Staging), by type GUID and a request".
     pub fn commit(self, area: &[u8], guid: [u8; 16], request: u32, out: &mut [u32]) -> Answer
-        ensures { λ r. ⌜ (outcomeOf r, now (out .exit)) ≡ commitCall self guid request (now (area .entry)) (now (out .entry)) ⌝ }
+        ensures { λ r. ⌜ (outcomeOf r, now (out .exit)) ≡ answered (commit guid request) self (now (area .entry)) (now (out .entry)) ⌝ }
     {
+        let verdict = self.admit(area, out.len());
+        if let Verdict::Refused(why) = verdict {
+            return Answer::refused(self, why);
+        }
         let Session::Staging { bank, set } = self else {
-            return self.not_named(area, out.len());
+            return Answer::refused(self, Refusal::SessionState);
         };
-        self.answered(commit_call(area, bank, set, guid, request, out))
+        let r = held_record(area);
+        let image = image_of(r, &guid);
+        if image_count(r) <= image {
+            return Answer::refused(self, Refusal::NoImage);
+        }
+        let joined = with_image(set, image);
+        changed(
+            Session::Staging { bank, set: joined },
+            area,
+            Change::Commit { image, request },
+            out,
+        )
     }
 
     // "End (Staging)".
     pub fn end(self, area: &[u8], out: &mut [u32]) -> Answer
-        ensures { λ r. ⌜ (outcomeOf r, now (out .exit)) ≡ endCall self (now (area .entry)) (now (out .entry)) ⌝ }
+        ensures { λ r. ⌜ (outcomeOf r, now (out .exit)) ≡ answered end self (now (area .entry)) (now (out .entry)) ⌝ }
     {
-        let Session::Staging { bank, set } = self else {
-            return self.not_named(area, out.len());
+        let verdict = self.admit(area, out.len());
+        if let Verdict::Refused(why) = verdict {
+            return Answer::refused(self, why);
+        }
+        let Session::Staging { bank: _, set } = self else {
+            return Answer::refused(self, Refusal::SessionState);
         };
-        self.answered(end_call(area, bank, set, out))
+        let count = missing_images(held_record(area), set);
+        if count != 0 {
+            return Answer::refused(self, Refusal::ImagesMissing(count));
+        }
+        changed(Session::Restart, area, Change::End, out)
     }
 
     // "Cancel (Staging)": "Cancel itself changes nothing in the record", so nothing is listed.
     pub fn cancel(self, area: &[u8], out: &mut [u32]) -> Answer
-        ensures { λ r. ⌜ (outcomeOf r, now (out .exit)) ≡ cancelCall self (now (area .entry)) (now (out .entry)) ⌝ }
+        ensures { λ r. ⌜ (outcomeOf r, now (out .exit)) ≡ answered cancel self (now (area .entry)) (now (out .entry)) ⌝ }
     {
-        let Session::Staging { bank, set } = self else {
-            return self.not_named(area, out.len());
+        let verdict = self.admit(area, out.len());
+        if let Verdict::Refused(why) = verdict {
+            return Answer::refused(self, why);
+        }
+        let Session::Staging { bank: _, set: _ } = self else {
+            return Answer::refused(self, Refusal::SessionState);
         };
-        self.answered(cancel_call(area, bank, set, out.len()))
+        Answer::accepted(Session::Regular, 0)
     }
 
     // "Accept (Trial)", by type GUID.
     pub fn accept(self, area: &[u8], guid: [u8; 16], out: &mut [u32]) -> Answer
-        ensures { λ r. ⌜ (outcomeOf r, now (out .exit)) ≡ acceptCall self guid (now (area .entry)) (now (out .entry)) ⌝ }
+        ensures { λ r. ⌜ (outcomeOf r, now (out .exit)) ≡ answered (accept guid) self (now (area .entry)) (now (out .entry)) ⌝ }
     {
+        let verdict = self.admit(area, out.len());
+        if let Verdict::Refused(why) = verdict {
+            return Answer::refused(self, why);
+        }
         let Session::Trial = self else {
-            return self.not_named(area, out.len());
+            return Answer::refused(self, Refusal::SessionState);
         };
-        self.answered(accept_call(area, guid, out))
+        let r = held_record(area);
+        let image = image_of(r, &guid);
+        if image_count(r) <= image {
+            return Answer::refused(self, Refusal::NoImage);
+        }
+        let next = after_accept(r, image);
+        changed(next, area, Change::Accept { image }, out)
     }
 
     // "Select previous (Trial, Fallback)".
     pub fn select_previous(self, area: &[u8], out: &mut [u32]) -> Answer
-        ensures { λ r. ⌜ (outcomeOf r, now (out .exit)) ≡ selectPreviousCall self (now (area .entry)) (now (out .entry)) ⌝ }
+        ensures { λ r. ⌜ (outcomeOf r, now (out .exit)) ≡ answered selectPrevious self (now (area .entry)) (now (out .entry)) ⌝ }
     {
+        let verdict = self.admit(area, out.len());
+        if let Verdict::Refused(why) = verdict {
+            return Answer::refused(self, why);
+        }
         match self {
             Session::Trial | Session::Fallback => {
-                return self.answered(select_call(area, out));
+                if !previous_accepted(held_record(area)) {
+                    return Answer::refused(self, Refusal::SessionState);
+                }
+                return changed(Session::Restart, area, Change::Exchange, out);
             }
             _ => {
-                return self.not_named(area, out.len());
+                return Answer::refused(self, Refusal::SessionState);
             }
         }
     }

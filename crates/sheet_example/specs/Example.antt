@@ -1,5 +1,6 @@
--- Document 01's example of a bench sheet, proved of the definition: "Two banks, one image, all accepted, active 0, previous 1, copy 0 read", with its
--- line ends. Copy 1 and the bytes behind the record may be anything. Assumes nothing.
+-- Document 01's example of a bench sheet, proved of the definition: "Two banks, one image, all accepted, active 0,
+-- previous 1, copy 0 read", with its line ends. Copy 1 and the bytes behind the record may be anything. Assumes
+-- nothing.
 use mathlib.Core.Path.{_≡_}
 use mathlib.Core.List.{List, [], _∷_, _++_}
 use Prim.Native.Nat.{ℕ}
@@ -13,9 +14,11 @@ use Rattle.record.specs.Every.{below}
 use Rattle.record.specs.Layout.{areaSize, recordOf}
 use Rattle.record.specs.Rules as rule
 use Rattle.copies.specs.Copies.{sourceOf, readFrom}
+use Rattle.verdicts.specs.Decide.{decide}
+use Rattle.admission.specs.Rows.{readTests}
 use Rattle.text.specs.Text.{ascii, digits, decimal, numbers, line, ascending}
 use Rattle.sheet_lines.specs.Lines.{bankLine, imageLine, imageLines, headLines, recordLines}
-use Rattle.sheet.specs.Sheet.{sheetFrom, sheetOf}
+use Rattle.sheet.specs.Sheet.{sheetBy, sheetOf}
 
 -- the record's 120 bytes, every GUID zero
 abbrev pub exampleRecord : List ℕ
@@ -30,8 +33,10 @@ exampleRecord =
 pub example : (rest : List ℕ) → length rest ≡ 16264
     → sheetOf (exampleRecord ++ rest)
     ≡ ascii "record\t0\t120\nactive\t0\nprevious\t1\nbank\t0\t252\nbank\t1\t252\nimage\t0\t0\t1\nimage\t0\t1\t1\n"
-unfolding sheetOf sheetFrom recordLines headLines bankLine imageLine imageLines ascending line numbers decimal digits sourceOf readFrom recordOf
-    rule.soundCopy rule.sound rule.versionRule rule.bankCountRule rule.imageCountRule rule.bankEntrySizeRule rule.imageEntrySizeRule
-    rule.sizeRule rule.descriptorOffsetRule rule.reservedRule rule.banksNamedRule rule.acceptedRule rule.typeGuidsRule rule.stateAllowed
-    rule.statesRule rule.allAccepted rule.bankConsistent rule.banksRule rule.crcRule below le guid same step steps withByte withBytes crc32Of
+unfolding sheetOf sheetBy readTests decide recordLines headLines bankLine imageLine imageLines ascending line numbers
+    decimal digits sourceOf readFrom recordOf rule.soundCopy rule.sound rule.versionRule rule.bankCountRule
+    rule.imageCountRule rule.bankEntrySizeRule rule.imageEntrySizeRule rule.sizeRule rule.descriptorOffsetRule
+    rule.reservedRule rule.banksNamedRule rule.acceptedRule rule.typeGuidsRule rule.stateAllowed rule.statesRule
+    rule.allAccepted rule.bankConsistent rule.banksRule rule.crcRule below le guid same step steps withByte withBytes
+    crc32Of
 example rest h = rw (eq-eqb (length (exampleRecord ++ rest)) areaSize (omega (arith, length-append exampleRecord rest)))

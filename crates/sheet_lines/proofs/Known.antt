@@ -7,13 +7,12 @@ use Prim.Native.Nat.{ℕ, _≤_, _<_}
 use native.Mathlib.Omega.{arith}
 use borrow.Author.Tests.{leb-true, eqb-true}
 use lib.Dec.{eqb, leb, ltb}
-use lib.ListN.{length}
 use Rattle.fields.proofs.Tests.{either}
 use Rattle.record.specs.Every.{below}
-use Rattle.record.specs.Layout.{headerSize, bankLimit, imageLimit, recordLimit, active, previous, size, state, bankCount, imageCount, accepted}
+use Rattle.record.specs.Layout.{bankLimit, imageLimit, recordLimit, active, previous, size, state, bankCount, imageCount, accepted}
 use Rattle.record.specs.Rules.{invalid, valid, acceptedBank, acceptedRule, stateKnown, stateAllowed, statesRule, rules, sound}
 use Rattle.record.proofs.Below.{below-each}
-use Rattle.record.proofs.Sizes.{header-in, record-high}
+use Rattle.record.proofs.Sizes.{record-high}
 use Rattle.record.proofs.Sound.{all-of, sound-sized, sound-size, sound-named}
 
 -- a state that rule 12 allows is a byte
@@ -29,9 +28,6 @@ allowed-state s true e = known-state s e
 allowed-state s false e = omega (arith, eqb-true s invalid e)
 
 module _ (r : List ℕ) (e : sound r ≡ true) where
-  pub header : headerSize ≤ length r
-  header = header-in r (bankCount r) (imageCount r) (sound-sized r e)
-
   pub few-banks : bankCount r ≤ bankLimit
   few-banks = sound-sized r e .banks-high
 

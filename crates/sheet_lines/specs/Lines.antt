@@ -1,5 +1,6 @@
--- The lines that the bench sheet has of a record (document 01, "The bench sheet"), as bytes. r is the record's bytes. "Record line: copy, size. Image
--- lines: image, bank, accepted; images ascending, banks within." The other lines are those of the page's example. Assumes nothing.
+-- The lines that the bench sheet has of a record (document 01, "The bench sheet"), as bytes. r is the record's bytes.
+-- "Record line: copy, size. Image lines: image, bank, accepted; images ascending, banks within." The other lines are
+-- those of the page's example. Assumes nothing.
 use Prim.Native.Nat.{ℕ}
 use mathlib.Core.List.{List, [], _∷_, _++_}
 use Rattle.record.specs.Layout.{active, previous, size, state, bankCount, imageCount, accepted}

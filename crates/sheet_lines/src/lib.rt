@@ -1,7 +1,11 @@
 // The bench sheet's lines of a sound record (document 01, "The bench sheet"), in a lent slice.
-use fields::read16;
-use fields::read32;
 use record::accepted_word;
+use record::active;
+use record::bank_count;
+use record::image_count;
+use record::previous;
+use record::size;
+use record::state;
 use text::line_of_one;
 use text::line_of_three;
 use text::line_of_two;
@@ -19,9 +23,9 @@ fn head_lines(out: &mut [u8], copy: u32, r: &[u8]) -> usize
     requires { ⌜ (sound (now r) ≡ true) × Room 0 (headLines copy (now r)) (now out) ⌝ }
     ensures { λ n. ⌜ Wrote 0 n (headLines copy (now (r .entry))) (now (out .entry)) (now (out .exit)) ⌝ }
 {
-    let n = line_of_two(out, 0, b"record", copy, read32(r, 16));
-    let m = line_of_one(out, n, b"active", read32(r, 8));
-    line_of_one(out, m, b"previous", read32(r, 12))
+    let n = line_of_two(out, 0, b"record", copy, size(r));
+    let m = line_of_one(out, n, b"active", active(r));
+    line_of_one(out, m, b"previous", previous(r))
 }
 
 // The line of bank b.
@@ -29,8 +33,7 @@ fn bank_line(out: &mut [u8], k: usize, r: &[u8], b: usize) -> usize
     requires { ⌜ (sound (now r) ≡ true) × (b < bankCount (now r)) × Room k (bankLine (now r) b) (now out) ⌝ }
     ensures { λ n. ⌜ Wrote k n (bankLine (now (r .entry)) b) (now (out .entry)) (now (out .exit)) ⌝ }
 {
-    let at = 24 + b;
-    line_of_two(out, k, b"bank", b as u32, r[at] as u32)
+    line_of_two(out, k, b"bank", b as u32, state(r, b) as u32)
 }
 
 // The lines of all banks.
@@ -38,7 +41,7 @@ fn bank_lines(out: &mut [u8], k: usize, r: &[u8]) -> usize
     requires { ⌜ (sound (now r) ≡ true) × Room k (ascending (bankCount (now r)) (bankLine (now r))) (now out) ⌝ }
     ensures { λ n. ⌜ Wrote k n (ascending (bankCount (now (r .entry))) (bankLine (now (r .entry)))) (now (out .entry)) (now (out .exit)) ⌝ }
 {
-    let banks = r[32] as usize;
+    let banks = bank_count(r);
     let mut n = k;
     let mut b = 0;
     while b < banks {
@@ -53,7 +56,7 @@ fn image_line(out: &mut [u8], k: usize, r: &[u8], i: usize, b: usize) -> usize
     requires { ⌜ (sound (now r) ≡ true) × (i < imageCount (now r)) × (b < bankCount (now r)) × Room k (imageLine (now r) i b) (now out) ⌝ }
     ensures { λ n. ⌜ Wrote k n (imageLine (now (r .entry)) i b) (now (out .entry)) (now (out .exit)) ⌝ }
 {
-    let flag = accepted_word(r, r[32] as usize, i, b);
+    let flag = accepted_word(r, bank_count(r), i, b);
     line_of_three(out, k, b"image", i as u32, b as u32, flag)
 }
 
@@ -62,7 +65,7 @@ fn image_lines(out: &mut [u8], k: usize, r: &[u8], i: usize) -> usize
     requires { ⌜ (sound (now r) ≡ true) × (i < imageCount (now r)) × Room k (imageLines (now r) i) (now out) ⌝ }
     ensures { λ n. ⌜ Wrote k n (imageLines (now (r .entry)) i) (now (out .entry)) (now (out .exit)) ⌝ }
 {
-    let banks = r[32] as usize;
+    let banks = bank_count(r);
     let mut n = k;
     let mut b = 0;
     while b < banks {
@@ -75,9 +78,10 @@ fn image_lines(out: &mut [u8], k: usize, r: &[u8], i: usize) -> usize
 // The lines of all images.
 fn all_images(out: &mut [u8], k: usize, r: &[u8]) -> usize
     requires { ⌜ (sound (now r) ≡ true) × Room k (ascending (imageCount (now r)) (imageLines (now r))) (now out) ⌝ }
-    ensures { λ n. ⌜ Wrote k n (ascending (imageCount (now (r .entry))) (imageLines (now (r .entry)))) (now (out .entry)) (now (out .exit)) ⌝ }
+    ensures { λ n. ⌜ Wrote k n (ascending (imageCount (now (r .entry))) (imageLines (now (r .entry))))
+        (now (out .entry)) (now (out .exit)) ⌝ }
 {
-    let images = read16(r, 34) as usize;
+    let images = image_count(r);
     let mut n = k;
     let mut i = 0;
     while i < images {

@@ -5,7 +5,6 @@ use crc::crc32;
 use entries::accepted_rule;
 use entries::reserved_rule;
 use entries::type_guids_rule;
-use fields::read16;
 use fields::read32;
 use header_rules::bank_count_rule;
 use header_rules::bank_entry_size_rule;
@@ -15,24 +14,30 @@ use header_rules::image_count_rule;
 use header_rules::image_entry_size_rule;
 use header_rules::size_rule;
 use header_rules::version_rule;
+use record::CRC_AT;
+use record::VERSION_AT;
+use record::active;
+use record::bank_count;
+use record::image_count;
 use record::record_in;
 ghost use mathlib.Core.Path.{_≡_};
 ghost use Prim.Native.Nat.{_≤_};
 ghost use lib.ListN.{length};
+ghost use Rattle.record.specs.Layout.{headerSize};
 ghost use Rattle.record.specs.Rules.{crcRule, sound, soundCopy};
 ghost use Rattle.record.specs.Sized.{Sized, firstSix, lastEight};
 
 // Rule 14.
 fn crc_rule(r: &[u8]) -> bool
-    requires { ⌜ 40 ≤ length (now r) ⌝ }
+    requires { ⌜ headerSize ≤ length (now r) ⌝ }
     ensures { λ b. ⌜ b ≡ crcRule (now (r .entry)) ⌝ }
 {
-    read32(r, 0) == crc32(&r[4..])
+    read32(r, CRC_AT) == crc32(&r[VERSION_AT..])
 }
 
 // Rules 1 to 6, on which the record's length rests.
 fn first_six(r: &[u8]) -> bool
-    requires { ⌜ 40 ≤ length (now r) ⌝ }
+    requires { ⌜ headerSize ≤ length (now r) ⌝ }
     ensures { λ b. ⌜ b ≡ firstSix (now (r .entry)) ⌝ }
 {
     if !version_rule(r) {
@@ -76,29 +81,26 @@ fn last_eight(r: &[u8], banks: usize, images: usize) -> bool
     if !states_rule(r, banks, images) {
         return false;
     }
-    let active = read32(r, 8) as usize;
-    if !banks_rule(r, banks, images, active) {
+    if !banks_rule(r, banks, images, active(r) as usize) {
         return false;
     }
     crc_rule(r)
 }
 
 // Whether a record is sound.
-fn sound_record(r: &[u8]) -> bool
-    requires { ⌜ 40 ≤ length (now r) ⌝ }
+pub fn sound_record(r: &[u8]) -> bool
+    requires { ⌜ headerSize ≤ length (now r) ⌝ }
     ensures { λ b. ⌜ b ≡ sound (now (r .entry)) ⌝ }
 {
     if !first_six(r) {
         return false;
     }
-    let banks = r[32] as usize;
-    let images = read16(r, 34) as usize;
-    last_eight(r, banks, images)
+    last_eight(r, bank_count(r), image_count(r))
 }
 
 // Whether a copy is sound: its record is.
 pub fn sound_copy(c: &[u8]) -> bool
-    requires { ⌜ 40 ≤ length (now c) ⌝ }
+    requires { ⌜ headerSize ≤ length (now c) ⌝ }
     ensures { λ b. ⌜ b ≡ soundCopy (now (c .entry)) ⌝ }
 {
     sound_record(record_in(c))

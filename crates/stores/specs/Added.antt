@@ -1,4 +1,5 @@
--- What the functions that list stores ask and answer, one step at a time. Nothing here is needed to read an entry's promise. Assumes nothing.
+-- What the functions that list stores ask and answer, one step at a time. Nothing here is needed to read an entry's
+-- promise. Assumes nothing.
 use Prim.Native.Nat.{ℕ, _+_, _*_, _/_, _≤_}
 use mathlib.Core.Bool.{cond}
 use mathlib.Core.List.{List, [], _∷_, _++_, map}
@@ -26,7 +27,8 @@ stored base c r os = map (shift base) (map (store r) (differing c r os))
 abbrev pub copyPairs : ℕ
 copyPairs = recordLimit / 4 + 1
 
--- a record that can be listed: whole words, the version among them, in the copy; and room for every word and one store more
+-- a record that can be listed: whole words, the version among them, in the copy; and room for every word and one store
+-- more
 pub record Listable (c r : List ℕ) (base k room : ℕ) : Type 0 where
   pub low : 8 ≤ length r
   pub high : length r ≤ copySize

@@ -1,5 +1,5 @@
--- The stores that put a record into a copy, and a list of stores in a slice of numbers (document 01, "Session and calls"). c is the bytes of
--- the copy, r those of the record, base the copy's offset in the area. Assumes nothing.
+-- The stores that put a record into a copy, and a list of stores in a slice of numbers (document 01, "Session and
+-- calls"). c is the bytes of the copy, r those of the record, base the copy's offset in the area. Assumes nothing.
 use Prim.Native.Nat.{ℕ, zero, suc, _+_, _*_, _-_, _/_}
 use mathlib.Core.Bool.{cond}
 use mathlib.Core.List.{List, [], _∷_, _++_, map}
@@ -38,11 +38,10 @@ unfoldable pub differing : List ℕ → List ℕ → List ℕ → List ℕ
 differing c r [] = []
 differing c r (o ∷ os) = cond (eqb (le 4 c o) (le 4 r o)) (differing c r os) (o ∷ differing c r os)
 
--- the first store makes the copy's version 0, the last one sets it right, and between them stand the words that differ: no mixture is sound,
--- whatever its CRC
--- Which stores are listed, and in what order, is the team's choice: "Open is only which stores are listed and in what order". What document 01
--- asks of them is said of the calls' and of repair's own lists in crates/demand3/specs/Demand3.antt, and of `plan` itself in
--- crates/power_cuts/specs/Offsets.antt
+-- the first store makes the copy's version 0, the last one sets it right, and between them stand the words that differ:
+-- no mixture is sound, whatever its CRC. Which stores are listed, and in what order, is the team's choice: "Open is
+-- only which stores are listed and in what order". What document 01 asks of them is said of the calls' and of repair's
+-- own lists in crates/demand3/specs/Demand3.antt, and of `plan` itself in crates/record_cuts/specs/Offsets.antt
 unfoldable pub writes : List ℕ → List ℕ → List Store
 writes r os = (versionAt, 0) ∷ (map (store r) os ++ (store r versionAt ∷ []))
 

@@ -40,6 +40,13 @@ room-first k t u a h = omega (arith, length-append t u)
 pub room-then : (k m : ℕ) (t u a b : List ℕ) → Room k (t ++ u) a → Wrote k m t a b → Room m u b
 room-then k m t u a b h p = omega (arith, length-append t u, p .count, p .kept)
 
+-- both laws where the two texts have been written: what is known of them tells all but the text that is left
+pub and-then : {k m n : ℕ} {t u a b c : List ℕ} → Room k (t ++ u) a → Wrote k m t a b → Wrote m n u b c → Wrote k n (t ++ u) a c
+and-then {k} {m} {n} {t} {u} {a} {b} {c} h p q = wrote-then k m n t u a b c h p q
+
+pub room-left : {k m : ℕ} {t a b : List ℕ} (u : List ℕ) → Room k (t ++ u) a → Wrote k m t a b → Room m u b
+room-left {k} {m} {t} {a} {b} u h p = room-then k m t u a b h p
+
 -- a word, byte by byte
 pub wrote-start : (k : ℕ) (word out : List ℕ) → Wrote k (k + 0) (take 0 word) out out
 wrote-start k word out = rw add-zero (wrote-none k out)

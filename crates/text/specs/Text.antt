@@ -25,8 +25,8 @@ lineFeed = 10
 abbrev pub digitOf : ℕ → ℕ
 digitOf n = 48 + n
 
--- a number's decimal digits, the highest first, with no zero in front; 0 is one digit. `turns` is how many digits are worked at most: each turn
--- divides by ten, so that one turn more than the number is enough
+-- a number's decimal digits, the highest first, with no zero in front; 0 is one digit. `turns` is how many digits are
+-- worked at most: each turn divides by ten, so that one turn more than the number is enough
 unfoldable pub digits : (turns n : ℕ) → List ℕ
 digits zero n = []
 digits (suc turns) n = let more = digits turns (n / 10) in cond (ltb n 10) (digitOf n ∷ []) (more ++ (digitOf (n % 10) ∷ []))

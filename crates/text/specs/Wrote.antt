@@ -1,4 +1,5 @@
--- What the functions that write a text ask and answer, one step at a time. Nothing here is needed to read an entry's promise. Assumes nothing.
+-- What the functions that write a text ask and answer, one step at a time. Nothing here is needed to read an entry's
+-- promise. Assumes nothing.
 use Prim.Native.Nat.{ℕ, _+_, _≤_}
 use mathlib.Core.List.{List}
 use mathlib.Core.Path.{_≡_}

@@ -1,4 +1,5 @@
-// Lines of text in a lent slice: a word, then numbers in decimal, each behind a tab, and a line feed (document 01, "The bench sheet").
+// Lines of text in a lent slice: a word, then numbers in decimal, each behind a tab, and a line feed (document 01, "The
+// bench sheet").
 ghost use mathlib.Core.Path.{_≡_};
 ghost use mathlib.Core.List.{[], _∷_};
 ghost use Prim.Native.Nat.{_<_};

@@ -1,5 +1,5 @@
-// The memory window (document 01, "The window and the scattered list"): what lies in it. Addresses can reach 2^64, so the code goes by
-// offsets in the window; the definitions go by addresses.
+// The memory window (document 01, "The window and the scattered list"): what lies in it. Addresses can reach 2^64, so
+// the code goes by offsets in the window; the definitions go by addresses.
 ghost use mathlib.Core.Path.{_≡_};
 ghost use Prim.Native.Nat.{_+_};
 ghost use mathlib.Core.Bool.{not};

@@ -1,48 +1,36 @@
 -- `bank_consistent` meets its contract. Assumes nothing.
-use mathlib.Core.Path.{_≡_, refl, sym, ap, _∙_}
 use native.Mathlib.Omega.{arith}
-use borrow.Author.Tests.{le-leb, lt-leb, le-ltb, lt-ltb, eq-eqb, ne-eqb}
+use borrow.Author.Tests.{eq-eqb, ne-eqb}
 use borrow.Author.Needs.{needs}
 use Rattle.record.specs.Rules.{bankConsistent}
-use Rattle.record.specs.Sized.{Sized, bankWords}
-use Rattle.record.proofs.Sizes.{bank-in, guid-in, header-in}
+use Rattle.record.proofs.Sizes.{header-in}
 use Rattle.bank_states.proofs.bank_consistent.Statement.{statement}
 use Rattle.bank_states.proofs.bank_consistent.Tie as tie
 
-add-s : tie.Need-add-s
-add-s c = search needs
-
-shared-slice-read-s : tie.Need-shared-slice-read-s
-shared-slice-read-s c =
-    let s = c .before .before in
-    omega (arith, header-in (s .args .r .now) (s .args .banks) (s .args .images) (s .pre .0), s .pre .0 .banks-high)
+state-requires : tie.Need-state-requires
+state-requires c κs =
+    let s = c .before in
+    (header-in (s .args .r .now) (s .args .banks) (s .args .images) (s .pre .0), omega (arith, s .pre .0 .banks-high))
 
 all-accepted-requires : tie.Need-all-accepted-requires
 all-accepted-requires c κs = search needs
 
 returns : tie.Need-returns
 unfolding bankConsistent
-returns c = rw (eq-eqb _ _ (c .before .if1 .taken)) (c .all-accepted .ensures)
+returns c = rw (← c .before .before .state .ensures, eq-eqb _ _ (c .before .if1 .taken)) (c .all-accepted .ensures)
 
 all-accepted-requires-2 : tie.Need-all-accepted-requires-2
 all-accepted-requires-2 c κs = search needs
 
 returns-2 : tie.Need-returns-2
 unfolding bankConsistent
-returns-2 c = rw (ne-eqb _ _ (c .before .before .if1 .left), eq-eqb _ _ (c .before .if2 .taken), c .all-accepted2 .ensures)
+returns-2 c = rw (← c .before .before .before .state .ensures, ne-eqb _ _ (c .before .before .if1 .left), eq-eqb _ _ (c .before .if2 .taken), c .all-accepted2 .ensures)
 
 returns-3 : tie.Need-returns-3
 unfolding bankConsistent
-returns-3 c = rw (ne-eqb _ _ (c .before .if1 .left), ne-eqb _ _ (c .if2 .left))
+returns-3 c = rw (← c .before .before .state .ensures, ne-eqb _ _ (c .before .if1 .left), ne-eqb _ _ (c .if2 .left))
 
 pub bank-consistent-spec : {M : Type 1} → statement M
 bank-consistent-spec =
     tie.close
-    (tie.spec
-    add-s
-    shared-slice-read-s
-    all-accepted-requires
-    returns
-    all-accepted-requires-2
-    returns-2
-    returns-3)
+    (tie.spec state-requires all-accepted-requires returns all-accepted-requires-2 returns-2 returns-3)

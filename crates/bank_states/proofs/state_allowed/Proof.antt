@@ -1,9 +1,8 @@
 -- `state_allowed` meets its contract. Assumes nothing.
-use lib.Dec.{eqb, leb, ltb}
-use mathlib.Core.Bool.{Bool, true, false, not, cond, _&&_, _||_}
-use mathlib.Core.Path.{_≡_, refl, sym, ap, _∙_}
-use native.Mathlib.Omega.{arith}
-use borrow.Author.Tests.{le-leb, lt-leb, le-ltb, lt-ltb, eq-eqb, ne-eqb}
+use lib.Dec.{ltb}
+use mathlib.Core.Bool.{Bool, true, false, cond}
+use mathlib.Core.Path.{_≡_, refl}
+use borrow.Author.Tests.{le-ltb, lt-ltb, eq-eqb, ne-eqb}
 use Rattle.record.specs.Rules.{stateAllowed}
 use Rattle.bank_states.proofs.state_allowed.Statement.{statement}
 use Rattle.bank_states.proofs.state_allowed.Tie as tie

@@ -1,7 +1,7 @@
 -- `copy_block` meets its contract. Assumes nothing.
 use mathlib.Core.Path.{_≡_, sym, _∙_}
 use mathlib.Core.Logic.{_⊎_, inl, inr, ⊎-elim}
-use Prim.Native.Nat.{ℕ, _+_, _-_, _≤_, _<_}
+use Prim.Native.Nat.{_+_, _-_, _≤_}
 use native.Mathlib.Omega.{arith}
 use borrow.Author.Needs.{needs}
 use lib.ListN.{length}
@@ -12,26 +12,11 @@ use Rattle.blocks.proofs.Copy.{no-block}
 use Rattle.blocks.proofs.copy_block.Statement.{statement}
 use Rattle.blocks.proofs.copy_block.Tie as tie
 
-sub-at : tie.Need-sub-at
-sub-at c = search needs
-
-read64-requires : tie.Need-read64-requires
-read64-requires c κs = search needs
-
-same-length : tie.Need-same-length
-same-length c = search needs
-
 returns : tie.Need-returns
 returns c =
     let a = c .before .before .before .before .args in
     let e = length-at (a .w .now) (a .base) (a .d) ∙ sym (c .before .read64 .ensures) ∙ c .if1 .taken in
     (sym e, no-block (a .w .now) (a .base) (a .d) (a .q) e)
-
-add-read64 : tie.Need-add-read64
-add-read64 c = search needs
-
-read64-requires-2 : tie.Need-read64-requires-2
-read64-requires-2 c κs = search needs
 
 -- the block's two numbers
 numbers : (c : tie.After-read642)
@@ -63,9 +48,6 @@ copy-bytes-requires c κs =
     let b = block-in r in
     (omega arith, omega (arith, p .room), ⊎-elim (λ g. inl (omega arith)) (λ g. inr (omega arith)) (p .apart (omega arith)))
 
-same-length-2 : tie.Need-same-length-2
-same-length-2 c = search needs
-
 returns-2 : tie.Need-returns-2
 unfolding block
 returns-2 c =
@@ -76,14 +58,5 @@ returns-2 c =
 pub copy-block-spec : {M : Type 1} → statement M
 copy-block-spec =
     tie.close
-    (tie.spec
-    sub-at
-    read64-requires
-    same-length
-    returns
-    add-read64
-    read64-requires-2
-    sub-from
-    copy-bytes-requires
-    same-length-2
-    returns-2)
+    (tie.spec (λ c. search needs) (λ c κs. search needs) (λ c. search needs) returns (λ c. search needs) (λ c κs. search needs) sub-from
+    copy-bytes-requires (λ c. search needs) returns-2)

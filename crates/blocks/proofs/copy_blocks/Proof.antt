@@ -1,6 +1,7 @@
--- `copy_blocks` meets its contract. The loop's invariant: the blocks of the first i descriptors stand at the place. Assumes nothing.
+-- `copy_blocks` meets its contract. The loop's invariant: the blocks of the first i descriptors stand at the place.
+-- Assumes nothing.
 use mathlib.Core.Path.{_≡_, refl, ap, _∙_}
-use Prim.Native.Nat.{ℕ, _+_, _-_, _≤_, _<_}
+use Prim.Native.Nat.{ℕ, _+_, _-_, _≤_}
 use native.Mathlib.Omega.{arith}
 use lib.ListN.{length, take, getD}
 use Rattle.fields.specs.Number.{put}
@@ -22,12 +23,6 @@ loop-holds : tie.Need-loop-holds Inv-loop μ-loop
 loop-holds c =
     let a = c .before .args in
     (omega arith, none-yet (a .w .now) (a .base) (a .p), at-start (a .w .now) (a .base) (a .p), refl)
-
-mul-copy-block : tie.Need-mul-copy-block Inv-loop μ-loop
-mul-copy-block c = omega arith
-
-element-copy-out-copy-block : tie.Need-element-copy-out-copy-block Inv-loop μ-loop
-element-copy-out-copy-block c = omega arith
 
 -- one turn, at the values of the loop's head
 readied : (c : tie.In-loop Inv-loop μ-loop)
@@ -59,12 +54,6 @@ copy-block-requires c κs = readied (c .before .before)
 add-q : tie.Need-add-q Inv-loop μ-loop
 add-q c = omega (arith, readied (c .before .before .before .before .before) .room, c .before .before .copy-block .ensures .0)
 
-add-i : tie.Need-add-i Inv-loop μ-loop
-add-i c = omega arith
-
-loop-less : tie.Need-loop-less Inv-loop μ-loop
-loop-less c = omega arith
-
 loop-again : tie.Need-loop-again Inv-loop μ-loop
 loop-again c =
     let o = c .before .before in
@@ -87,16 +76,5 @@ returns c =
 pub copy-blocks-spec : {M : Type 1} → statement M
 copy-blocks-spec =
     tie.close
-    (tie.spec
-    Inv-loop
-    μ-loop
-    loop-holds
-    mul-copy-block
-    element-copy-out-copy-block
-    copy-block-requires
-    add-q
-    add-i
-    loop-less
-    loop-again
-    same-length
-    returns)
+    (tie.spec Inv-loop μ-loop loop-holds (λ c. omega arith) (λ c. omega arith) copy-block-requires add-q (λ c. omega arith)
+    (λ c. omega arith) loop-again same-length returns)

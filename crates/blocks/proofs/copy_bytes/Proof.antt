@@ -1,5 +1,5 @@
--- `copy_bytes` meets its contract. The loop's invariant: the first i bytes are copied; a byte that is still to be read lies outside
--- what has been written. Assumes nothing.
+-- `copy_bytes` meets its contract. The loop's invariant: the first i bytes are copied; a byte that is still to be read
+-- lies outside what has been written. Assumes nothing.
 use borrow.Author.Needs.{needs}
 use mathlib.Core.Path.{_≡_, refl, sym, ap, _∙_}
 use mathlib.Core.Logic.{_⊎_, inl, inr, ⊎-elim}
@@ -9,7 +9,6 @@ use native.Mathlib.Omega.{arith}
 use native.Mathlib.Numerals.{add-one}
 use lib.ListN.{length, take, drop, getD, set, length-drop, length-set}
 use lib.Seq.{paste, paste-zero, paste-suc, getD-drop, length-take-le}
-use Rattle.fields.specs.Number.{put}
 use Rattle.fields.proofs.Put.{put-paste, put-outside}
 use Rattle.blocks.proofs.copy_bytes.Statement.{statement}
 use Rattle.blocks.proofs.copy_bytes.Tie as tie
@@ -39,24 +38,6 @@ loop-holds c =
     let a = c .args in
     (omega arith, paste-zero (a .w .now) (a .to) (drop (a .from) (a .w .now)), refl)
 
-add-w : tie.Need-add-w Inv-loop μ-loop
-add-w c = omega arith
-
-slice-read-w : tie.Need-slice-read-w Inv-loop μ-loop
-slice-read-w c = omega arith
-
-add-w-2 : tie.Need-add-w-2 Inv-loop μ-loop
-add-w-2 c = omega arith
-
-slice-write-w : tie.Need-slice-write-w Inv-loop μ-loop
-slice-write-w c = omega arith
-
-add-i : tie.Need-add-i Inv-loop μ-loop
-add-i c = omega arith
-
-loop-less : tie.Need-loop-less Inv-loop μ-loop
-loop-less c = omega arith
-
 loop-again : tie.Need-loop-again Inv-loop μ-loop
 loop-again c =
     let l = c .before .before in
@@ -66,9 +47,6 @@ loop-again c =
       turn (a .w .now) (l .loop .w) (a .from) (a .to) (a .n) (l .loop .i) (p .0) (p .1) (p .2) (c .before .loop-test .taken) (l .loop .inv .1),
       simp length-set (l .loop .inv .2),
     )
-
-same-length : tie.Need-same-length Inv-loop μ-loop
-same-length c = search needs
 
 returns : tie.Need-returns Inv-loop μ-loop
 returns c =
@@ -81,16 +59,5 @@ returns c =
 pub copy-bytes-spec : {M : Type 1} → statement M
 copy-bytes-spec =
     tie.close
-    (tie.spec
-    Inv-loop
-    μ-loop
-    loop-holds
-    add-w
-    slice-read-w
-    add-w-2
-    slice-write-w
-    add-i
-    loop-less
-    loop-again
-    same-length
-    returns)
+    (tie.spec Inv-loop μ-loop loop-holds (λ c. omega arith) (λ c. omega arith) (λ c. omega arith) (λ c. omega arith) (λ c. omega arith)
+    (λ c. omega arith) loop-again (λ c. search needs) returns)

@@ -1,43 +1,21 @@
 -- `give` meets its contract. Assumes nothing.
 use borrow.Author.Needs.{needs}
-use Rattle.c_answer.proofs.Answered.{refused-keeps, accepted-gives}
+use Rattle.verdicts.specs.Decide.{reply}
 use Rattle.c_answer.proofs.give.Statement.{statement}
 use Rattle.c_answer.proofs.give.Tie as tie
 
-enum-known-verdict : tie.Need-enum-known-verdict
-enum-known-verdict c = search needs
-
-number-requires : tie.Need-number-requires
-number-requires c κs = search needs
-
-enum-told : tie.Need-enum-told
-enum-told c = search needs
-
-kind-of-requires : tie.Need-kind-of-requires
-kind-of-requires c κs = search needs
-
-bank-of-requires : tie.Need-bank-of-requires
-bank-of-requires c κs = search needs
-
-set-of-requires : tie.Need-set-of-requires
-set-of-requires c κs = search needs
-
 returns : tie.Need-returns
-returns c = refused-keeps _ _ _ _ _ (c .before .before .verdict .given .1) (c .number .ensures)
+unfolding reply
+returns c = rw (c .before .before .verdict .given .1, c .number .ensures)
 
 returns-2 : tie.Need-returns-2
+unfolding reply
 returns-2 c =
-    accepted-gives _ _ _ _ (c .before .before .before .enum-told .given .1) (rw (c .before .before .kind-of .ensures, c .before .bank-of .ensures, c .set-of .ensures))
+    let k = c .before .before in
+    rw (k .before .enum-told .given .1, k .kind-of .ensures, c .before .bank-of .ensures, c .set-of .ensures)
 
 pub give-spec : {M : Type 1} → statement M
 give-spec =
     tie.close
-    (tie.spec
-    enum-known-verdict
-    number-requires
-    enum-told
-    kind-of-requires
-    bank-of-requires
-    set-of-requires
-    returns
-    returns-2)
+    (tie.spec (λ c. search needs) (λ c κs. search needs) (λ c. search needs)
+    (λ c κs. search needs) (λ c κs. search needs) (λ c κs. search needs) returns returns-2)

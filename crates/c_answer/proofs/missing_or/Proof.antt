@@ -8,7 +8,10 @@ use borrow.Author.Needs.{needs}
 use Rattle.refusals.proofs.Refusal.{the-type}
 use Rattle.refusals.specs.Number.{numberOf, valuesOf}
 use Rattle.refusals.specs.declared.Refusal.{Refusal}
-use Rattle.refusals.specs.declared.Refusal.the-variants.{WindowEnd, DescriptorCount, DescriptorAddress, BlockOutside, TotalLength, TotalZero, NoPlace, CapsuleShort, CapsuleSizes, CapsuleFlags, CapsuleGuid, CapsuleBody, CapsulePayload, NoItem, AreaLength, NoSoundCopy, NotSoundAndEqual, StoreSlice, StagingFault, SessionState, NoImage, ImagesMissing, BootedBank}
+use Rattle.refusals.specs.declared.Refusal.the-variants.{WindowEnd, DescriptorCount, DescriptorAddress, BlockOutside, TotalLength}
+use Rattle.refusals.specs.declared.Refusal.the-variants.{TotalZero, NoPlace, CapsuleShort, CapsuleSizes, CapsuleFlags, CapsuleGuid}
+use Rattle.refusals.specs.declared.Refusal.the-variants.{CapsuleBody, CapsulePayload, NoItem, AreaLength, NoSoundCopy, NotSoundAndEqual}
+use Rattle.refusals.specs.declared.Refusal.the-variants.{StoreSlice, StagingFault, SessionState, NoImage, ImagesMissing, BootedBank}
 use Rattle.c_answer.specs.Answers.{missingOr}
 use Rattle.c_answer.proofs.missing_or.Statement.{statement}
 use Rattle.c_answer.proofs.missing_or.Tie as tie

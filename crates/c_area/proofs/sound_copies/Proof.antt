@@ -1,96 +1,60 @@
 -- `sound_copies` meets its contract. Assumes nothing.
-use mathlib.Core.Path.{sym, _∙_}
+use Prim.Native.Nat.{ℕ, _+_}
+use mathlib.Core.Path.{_≡_, refl, sym, _∙_}
+use mathlib.Core.Bool.{Bool, true, false, cond, _&&_}
+use mathlib.Core.List.{List}
 use borrow.Author.Tests.{not-true, not-false}
 use borrow.Author.Needs.{needs}
-use Rattle.copies.specs.Copies.{soundAndEqual}
+use Rattle.record.specs.Layout.{copy0, copy1}
+use Rattle.record.specs.Rules.{soundCopy}
+use Rattle.copies.specs.Copies.{recordsEqual, soundAndEqual}
 use Rattle.c_area.specs.Soundness.{soundCopies}
 use Rattle.c_area.proofs.sound_copies.Statement.{statement}
 use Rattle.c_area.proofs.sound_copies.Tie as tie
 
-sub-sound-copy : tie.Need-sub-sound-copy
-sub-sound-copy c = search needs
-
-part-sound-copy-start : tie.Need-part-sound-copy-start
-part-sound-copy-start c = search needs
-
-part-sound-copy-end : tie.Need-part-sound-copy-end
-part-sound-copy-end c = search needs
-
-sound-copy-requires : tie.Need-sound-copy-requires
-sound-copy-requires c κs = search needs
-
-sub-sound-copy-2 : tie.Need-sub-sound-copy-2
-sub-sound-copy-2 c = search needs
-
-part-sound-copy-start-2 : tie.Need-part-sound-copy-start-2
-part-sound-copy-start-2 c = search needs
-
-part-sound-copy-end-2 : tie.Need-part-sound-copy-end-2
-part-sound-copy-end-2 c = search needs
-
-sound-copy-requires-2 : tie.Need-sound-copy-requires-2
-sound-copy-requires-2 c κs = search needs
+-- the bits, from what was found of each copy and of their records
+bits : (a : List ℕ) (x y e : Bool) → x ≡ soundCopy (copy0 a) → y ≡ soundCopy (copy1 a) → e ≡ recordsEqual a
+    → cond x 1 0 + (cond y 2 0 + cond ((x && y) && e) 4 0) ≡ soundCopies a
+unfolding soundCopies soundAndEqual
+bits a x y e h0 h1 h2 = rw (h0, h1, h2)
 
 returns : tie.Need-returns
-unfolding soundCopies soundAndEqual
 returns c =
-    rw (
-      sym (c .before .before .sound-copy2 .ensures) ∙ not-true _ (c .before .if1 .taken),
-      sym (c .before .before .before .before .sound-copy .ensures) ∙ c .if2 .taken,
-    )
+    let s = c .before .before in
+    bits _ false true _ (sym (not-true _ (c .before .if1 .taken)) ∙ s .sound-copy2 .ensures)
+    (sym (c .if2 .taken) ∙ s .before .before .sound-copy .ensures) refl
 
 returns-2 : tie.Need-returns-2
-unfolding soundCopies soundAndEqual
 returns-2 c =
-    rw (
-      sym (c .before .before .sound-copy2 .ensures) ∙ not-true _ (c .before .if1 .taken),
-      sym (c .before .before .before .before .sound-copy .ensures) ∙ c .if2 .left,
-    )
+    let s = c .before .before in
+    bits _ false false _ (sym (not-true _ (c .before .if1 .taken)) ∙ s .sound-copy2 .ensures)
+    (sym (c .if2 .left) ∙ s .before .before .sound-copy .ensures) refl
 
 returns-3 : tie.Need-returns-3
-unfolding soundCopies soundAndEqual
 returns-3 c =
-    rw (
-      sym (c .before .before .sound-copy2 .ensures) ∙ not-false _ (c .before .if1 .left),
-      sym (c .before .before .before .before .sound-copy .ensures) ∙ not-true _ (c .if3 .taken),
-    )
+    let s = c .before .before in
+    bits _ true false _ (sym (not-false _ (c .before .if1 .left)) ∙ s .sound-copy2 .ensures)
+    (sym (not-true _ (c .if3 .taken)) ∙ s .before .before .sound-copy .ensures) refl
 
-records-equal-requires : tie.Need-records-equal-requires
-records-equal-requires c κs = search needs
+-- both copies are sound
+both : (e : Bool) (c : tie.After-records-equal) → e ≡ c .records-equal .result
+    → 1 + (2 + cond e 4 0) ≡ soundCopies (c .before .before .before .before .before .before .before .before .args .area .now)
+both e c h =
+    let b = c .before in
+    let s = b .before .before in
+    bits _ true true e (sym (not-false _ (b .before .if1 .left)) ∙ s .sound-copy2 .ensures)
+    (sym (not-false _ (b .if3 .left)) ∙ s .before .before .sound-copy .ensures) (h ∙ c .records-equal .ensures)
 
 returns-4 : tie.Need-returns-4
-unfolding soundCopies soundAndEqual
-returns-4 c =
-    rw (
-      sym (c .before .before .before .before .sound-copy2 .ensures) ∙ not-false _ (c .before .before .before .if1 .left),
-      sym (c .before .before .before .before .before .before .sound-copy .ensures) ∙ not-false _ (c .before .before .if3 .left),
-      sym (c .before .records-equal .ensures) ∙ c .if4 .taken,
-    )
+returns-4 c = both true (c .before) (sym (c .if4 .taken))
 
 returns-5 : tie.Need-returns-5
-unfolding soundCopies soundAndEqual
-returns-5 c =
-    rw (
-      sym (c .before .before .before .before .sound-copy2 .ensures) ∙ not-false _ (c .before .before .before .if1 .left),
-      sym (c .before .before .before .before .before .before .sound-copy .ensures) ∙ not-false _ (c .before .before .if3 .left),
-      sym (c .before .records-equal .ensures) ∙ c .if4 .left,
-    )
+returns-5 c = both false (c .before) (sym (c .if4 .left))
 
 pub sound-copies-spec : {M : Type 1} → statement M
 sound-copies-spec =
     tie.close
     (tie.spec
-    sub-sound-copy
-    part-sound-copy-start
-    part-sound-copy-end
-    sound-copy-requires
-    sub-sound-copy-2
-    part-sound-copy-start-2
-    part-sound-copy-end-2
-    sound-copy-requires-2
-    returns
-    returns-2
-    returns-3
-    records-equal-requires
-    returns-4
-    returns-5)
+    (λ c. search needs) (λ c. search needs) (λ c. search needs) (λ c κs. search needs)
+    (λ c. search needs) (λ c. search needs) (λ c. search needs) (λ c κs. search needs)
+    returns returns-2 returns-3 (λ c κs. search needs) returns-4 returns-5)

@@ -5,11 +5,8 @@ use lib.ListN.{length}
 use Rattle.c_capsule.proofs.meanderpeg_capsule_item_length.Statement.{statement}
 use Rattle.c_capsule.proofs.meanderpeg_capsule_item_length.Tie as tie
 
-item-requires : tie.Need-item-requires
-item-requires c κs = search needs
-
 returns : tie.Need-returns
 returns c = ap length (c .item .ensures .bytes)
 
 pub meanderpeg-capsule-item-length-spec : {M : Type 1} → statement M
-meanderpeg-capsule-item-length-spec = tie.close (tie.spec item-requires returns)
+meanderpeg-capsule-item-length-spec = tie.close (tie.spec (λ c κs. search needs) returns)

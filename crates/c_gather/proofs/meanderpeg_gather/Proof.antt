@@ -14,29 +14,11 @@ refused o n r p t w e h = rw (← e) (record { answered = h; window = refl; addr
 placed : (o : Answer × List ℕ) (a s p t : ℕ) (w : List ℕ) → _≡_ {A = Answer × List ℕ} (place a s, w) o → Exported o p t 0 w a s
 placed o a s p t w e = rw (← e) (record { answered = refl; window = refl; address-after = refl; total-after = refl })
 
-gather-requires : tie.Need-gather-requires
-gather-requires c κs = search needs
-
-enum-known-refusal : tie.Need-enum-known-refusal
-enum-known-refusal c = search needs
-
-number-requires : tie.Need-number-requires
-number-requires c κs = search needs
-
-enum-known-a : tie.Need-enum-known-a
-enum-known-a c = search needs
-
-same-length : tie.Need-same-length
-same-length c = search needs
-
 returns : tie.Need-returns
 returns c =
     let f = c .before .before in
     let g = f .before .before .before .before in
     refused _ _ (c .number .result) _ _ _ (rw (f .refusal .given .1) at (g .gather .ensures)) (c .number .ensures)
-
-same-length-2 : tie.Need-same-length-2
-same-length-2 c = search needs
 
 returns-2 : tie.Need-returns-2
 returns-2 c =
@@ -47,12 +29,5 @@ returns-2 c =
 pub meanderpeg-gather-spec : {M : Type 1} → statement M
 meanderpeg-gather-spec =
     tie.close
-    (tie.spec
-    gather-requires
-    enum-known-refusal
-    number-requires
-    enum-known-a
-    same-length
-    returns
-    same-length-2
-    returns-2)
+    (tie.spec (λ c κs. search needs) (λ c. search needs) (λ c κs. search needs) (λ c. search needs) (λ c. search needs) returns
+    (λ c. search needs) returns-2)

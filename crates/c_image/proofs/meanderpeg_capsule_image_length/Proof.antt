@@ -5,11 +5,8 @@ use lib.ListN.{length}
 use Rattle.c_image.proofs.meanderpeg_capsule_image_length.Statement.{statement}
 use Rattle.c_image.proofs.meanderpeg_capsule_image_length.Tie as tie
 
-image-requires : tie.Need-image-requires
-image-requires c κs = search needs
-
 returns : tie.Need-returns
 returns c = ap length (c .image .ensures .bytes)
 
 pub meanderpeg-capsule-image-length-spec : {M : Type 1} → statement M
-meanderpeg-capsule-image-length-spec = tie.close (tie.spec image-requires returns)
+meanderpeg-capsule-image-length-spec = tie.close (tie.spec (λ c κs. search needs) returns)

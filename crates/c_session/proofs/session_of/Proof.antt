@@ -1,40 +1,30 @@
 -- `session_of` meets its contract: kind by kind. Assumes nothing.
-use borrow.Author.Tests.{eq-eqb, ne-eqb}
-use Rattle.c_session.specs.Numbers.{sessionOf}
+use borrow.Author.Tests.{ne-eqb}
+use Rattle.c_session.specs.Numbers.{sessionNamed}
 use Rattle.c_session.proofs.session_of.Statement.{statement}
 use Rattle.c_session.proofs.session_of.Tie as tie
 
 returns : tie.Need-returns
-unfolding sessionOf
-returns c = rw (eq-eqb _ _ (c .if1 .taken))
+unfolding sessionNamed
+returns c = rw (c .match .keys1)
 
 returns-2 : tie.Need-returns-2
-unfolding sessionOf
-returns-2 c = rw (ne-eqb _ _ (c .before .if1 .left), eq-eqb _ _ (c .if2 .taken))
+unfolding sessionNamed
+returns-2 c = rw (c .match .keys2)
 
 returns-3 : tie.Need-returns-3
-unfolding sessionOf
-returns-3 c = rw (ne-eqb _ _ (c .before .before .if1 .left), ne-eqb _ _ (c .before .if2 .left), eq-eqb _ _ (c .if3 .taken))
+unfolding sessionNamed
+returns-3 c = rw (c .match .keys3)
 
 returns-4 : tie.Need-returns-4
-unfolding sessionOf
-returns-4 c =
-    rw (
-      ne-eqb _ _ (c .before .before .before .if1 .left),
-      ne-eqb _ _ (c .before .before .if2 .left),
-      ne-eqb _ _ (c .before .if3 .left),
-      eq-eqb _ _ (c .if4 .taken),
-    )
+unfolding sessionNamed
+returns-4 c = rw (c .match .keys4)
 
 returns-5 : tie.Need-returns-5
-unfolding sessionOf
+unfolding sessionNamed
 returns-5 c =
-    rw (
-      ne-eqb _ _ (c .before .before .before .if1 .left),
-      ne-eqb _ _ (c .before .before .if2 .left),
-      ne-eqb _ _ (c .before .if3 .left),
-      ne-eqb _ _ (c .if4 .left),
-    )
+    let n = c .match .rest in
+    rw (ne-eqb _ _ (n .0 .0 .0 .1), ne-eqb _ _ (n .0 .0 .1), ne-eqb _ _ (n .0 .1), ne-eqb _ _ (n .1))
 
 pub session-of-spec : {M : Type 1} → statement M
 session-of-spec = tie.close (tie.spec returns returns-2 returns-3 returns-4 returns-5)

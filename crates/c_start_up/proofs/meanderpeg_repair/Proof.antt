@@ -1,21 +1,27 @@
 -- `meanderpeg_repair` meets its contract. Assumes nothing.
-use Rattle.c_answer.proofs.Answers.{repair-given}
 use borrow.Author.Needs.{needs}
 use Rattle.c_start_up.proofs.meanderpeg_repair.Statement.{statement}
 use Rattle.c_start_up.proofs.meanderpeg_repair.Tie as tie
 
-repair-requires : tie.Need-repair-requires
-repair-requires c κs = search needs
-
-give-pairs-requires : tie.Need-give-pairs-requires
-give-pairs-requires c κs = search needs
-
-same-length : tie.Need-same-length
-same-length c = search needs
-
 returns : tie.Need-returns
-returns c = repair-given _ _ _ _ _ (c .before .before .before .before .repair .ensures) (c .give-pairs .ensures)
+returns c =
+    let t = c .before .before in
+    rw (← t .before .before .before .before .repair .ensures, t .answer .given .1, c .number .ensures)
+
+returns-2 : tie.Need-returns-2
+returns-2 c =
+    let t = c .before in
+    rw (← t .before .before .before .before .repair .ensures, t .answer2 .given .1)
 
 pub meanderpeg-repair-spec : {M : Type 1} → statement M
 meanderpeg-repair-spec =
-    tie.close (tie.spec repair-requires give-pairs-requires same-length returns)
+    tie.close
+    (tie.spec
+    (λ c κs. search needs)
+    (λ c. search needs)
+    (λ c κs. search needs)
+    (λ c. search needs)
+    (λ c. search needs)
+    returns
+    (λ c. search needs)
+    returns-2)

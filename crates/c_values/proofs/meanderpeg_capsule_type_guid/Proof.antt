@@ -5,15 +5,6 @@ use borrow.Author.Needs.{needs}
 use Rattle.c_values.proofs.meanderpeg_capsule_type_guid.Statement.{statement}
 use Rattle.c_values.proofs.meanderpeg_capsule_type_guid.Tie as tie
 
-refusal-requires : tie.Need-refusal-requires
-refusal-requires c κs = search needs
-
-number-requires : tie.Need-number-requires
-number-requires c κs = search needs
-
-type-guid-requires : tie.Need-type-guid-requires
-type-guid-requires c κs = search needs
-
 returns : tie.Need-returns
 unfolding shownGuid
 returns c =
@@ -28,4 +19,4 @@ returns-2 c =
 
 pub meanderpeg-capsule-type-guid-spec : {M : Type 1} → statement M
 meanderpeg-capsule-type-guid-spec =
-    tie.close (tie.spec refusal-requires number-requires type-guid-requires returns returns-2)
+    tie.close (tie.spec (λ c κs. search needs) (λ c κs. search needs) (λ c κs. search needs) returns returns-2)

@@ -5,11 +5,8 @@ use lib.ListN.{length}
 use Rattle.c_vendor_code.proofs.meanderpeg_capsule_vendor_code_length.Statement.{statement}
 use Rattle.c_vendor_code.proofs.meanderpeg_capsule_vendor_code_length.Tie as tie
 
-vendor-code-requires : tie.Need-vendor-code-requires
-vendor-code-requires c κs = search needs
-
 returns : tie.Need-returns
 returns c = ap length (c .vendor-code .ensures .bytes)
 
 pub meanderpeg-capsule-vendor-code-length-spec : {M : Type 1} → statement M
-meanderpeg-capsule-vendor-code-length-spec = tie.close (tie.spec vendor-code-requires returns)
+meanderpeg-capsule-vendor-code-length-spec = tie.close (tie.spec (λ c κs. search needs) returns)

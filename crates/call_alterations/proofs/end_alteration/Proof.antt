@@ -1,7 +1,7 @@
 -- `end_alteration` meets its contract. Assumes nothing.
 use borrow.Author.Needs.{needs}
 use native.Mathlib.Omega.{arith}
-use Rattle.changes.proofs.Banks.{header, banks-few, update-low}
+use Rattle.changes.proofs.Banks.{banks-few}
 use Rattle.call_alterations.proofs.Making.{end-makes}
 use Rattle.call_alterations.proofs.end_alteration.Statement.{statement}
 use Rattle.call_alterations.proofs.end_alteration.Tie as tie
@@ -12,26 +12,26 @@ update-bank-requires c κs = search needs
 end-state-requires : tie.Need-end-state-requires
 end-state-requires c κs = search needs
 
-cast-t4 : tie.Need-cast-t4
-cast-t4 c = let u = c .before in let s = u .before .before in omega (arith, u .update-bank .ensures .1, banks-few (s .args .r .now) (s .pre) .1)
+unaltered-requires : tie.Need-unaltered-requires
+unaltered-requires c κs = search needs
 
-read32-requires : tie.Need-read32-requires
-read32-requires c κs = let s = c .before .before .before in omega (arith, header (s .args .r .now) (s .pre))
-
-states-with-requires : tie.Need-states-with-requires
-states-with-requires c κs =
+cast-x : tie.Need-cast-x
+cast-x c =
     let u = c .before .before in
     let s = u .before .before in
-    (header (s .args .r .now) (s .pre), rw (u .update-bank .ensures .0) (update-low (s .args .r .now) (s .pre)))
+    omega (arith, u .update-bank .ensures .1, banks-few (s .args .r .now) (s .pre) .1)
+
+states-with-requires : tie.Need-states-with-requires
+states-with-requires c κs = search needs
 
 returns : tie.Need-returns
 returns c =
-    let a = c .before in
-    let t = a .before in
+    let x = c .before in
+    let t = x .before in
     let u = t .before in
     let k = u .before in
     let s = k .before in
-    rw (c .states-with .ensures, a .read32 .ensures, t .end-state .ensures, u .update-bank .ensures .0)
+    rw (x .unaltered .ensures .is, c .states-with .ensures, t .end-state .ensures, u .update-bank .ensures .0)
     (end-makes (s .args .r .now) (s .pre) (λ i. k .shared-slice-known .given i .fits))
 
 pub end-alteration-spec : {M : Type 1} → statement M
@@ -40,7 +40,7 @@ end-alteration-spec =
     (tie.spec
     update-bank-requires
     end-state-requires
-    cast-t4
-    read32-requires
+    unaltered-requires
+    cast-x
     states-with-requires
     returns)

@@ -1,22 +1,13 @@
 -- `refusal` meets its contract: the item that was found tells the verdict. Assumes nothing.
 use borrow.Author.Needs.{needs}
-use mathlib.Core.Path.{_≡_, sym, ap, _∙_}
+use mathlib.Core.Path.{sym, ap, _∙_}
 use Rattle.capsule_check.specs.Verdict.{verdictNumber}
-use Rattle.capsule_check.proofs.Places.{told, told-judged}
+use Rattle.capsule_check.proofs.Places.{told-judged}
 use Rattle.capsule.proofs.refusal.Statement.{statement}
 use Rattle.capsule.proofs.refusal.Tie as tie
 
-locate-requires : tie.Need-locate-requires
-locate-requires c κs = search needs
-
 enum-told : tie.Need-enum-told
 enum-told c = search needs
-
-enum-told-2 : tie.Need-enum-told-2
-enum-told-2 c = search needs
-
-enum-known-found : tie.Need-enum-known-found
-enum-known-found c = search needs
 
 returns : tie.Need-returns
 returns c =
@@ -35,5 +26,4 @@ returns-3 c =
 
 pub refusal-spec : {M : Type 1} → statement M
 refusal-spec =
-    tie.close
-    (tie.spec locate-requires enum-told enum-told-2 enum-known-found returns returns-2 returns-3)
+    tie.close (tie.spec (λ c κs. search needs) enum-told (λ c. search needs) (λ c. search needs) returns returns-2 returns-3)

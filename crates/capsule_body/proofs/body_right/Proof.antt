@@ -1,12 +1,12 @@
 -- `body_right` meets its contract: the tests in the definition's order. Assumes nothing.
 use borrow.Author.Needs.{needs}
-use mathlib.Core.Path.{_≡_, sym, _∙_}
+use mathlib.Core.Path.{_∙_}
 use Prim.Native.Nat.{_+_}
 use native.Mathlib.Omega.{arith}
 use borrow.Author.Tests.{le-leb, lt-leb, eq-eqb, ne-eqb}
 use lib.ListN.{length}
 use Rattle.fields.specs.Number.{le}
-use Rattle.capsule_body.specs.Body.{bodyVersion, drivers, payloads, items, bodyRight}
+use Rattle.capsule_body.specs.Body.{bodyVersion, drivers, payloads, bodyRight}
 use Rattle.capsule_body.proofs.body_right.Statement.{statement}
 use Rattle.capsule_body.proofs.body_right.Tie as tie
 
@@ -14,30 +14,12 @@ returns : tie.Need-returns
 unfolding bodyRight
 returns c = simp (lt-leb 8 (length (c .before .before .args .b .now)) (c .if1 .taken))
 
-read32-requires : tie.Need-read32-requires
-read32-requires c κs = search needs
-
 returns-2 : tie.Need-returns-2
 unfolding bodyRight bodyVersion
 returns-2 c =
     let b = c .before .before .before .before .args .b .now in
     let r = c .before .read32 in
     simp (le-leb 8 (length b) (omega arith), ne-eqb (le 4 b 0) 1 (λ e. c .if2 .taken (r .ensures ∙ e)))
-
-read16-requires : tie.Need-read16-requires
-read16-requires c κs = search needs
-
-cast-n : tie.Need-cast-n
-cast-n c = search needs
-
-read16-requires-2 : tie.Need-read16-requires-2
-read16-requires-2 c κs = search needs
-
-cast-n-2 : tie.Need-cast-n-2
-cast-n-2 c = search needs
-
-add-n : tie.Need-add-n
-add-n c = search needs
 
 returns-3 : tie.Need-returns-3
 unfolding bodyRight bodyVersion drivers payloads
@@ -58,15 +40,5 @@ returns-4 c =
 pub body-right-spec : {M : Type 1} → statement M
 body-right-spec =
     tie.close
-    (tie.spec
-    returns
-    read32-requires
-    returns-2
-    read16-requires
-    cast-n
-    read16-requires-2
-    cast-n-2
-    add-n
-    returns-3
-    offsets-right-requires
-    returns-4)
+    (tie.spec returns (λ c κs. search needs) returns-2 (λ c κs. search needs) (λ c. search needs) (λ c κs. search needs) (λ c. search needs)
+    (λ c. search needs) returns-3 offsets-right-requires returns-4)

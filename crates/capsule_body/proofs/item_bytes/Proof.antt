@@ -1,8 +1,7 @@
 -- `item_bytes` meets its contract: an item ends in the body. Assumes nothing.
 use borrow.Author.Needs.{needs}
-use mathlib.Core.Path.{_≡_}
 use native.Mathlib.Omega.{arith}
-use Prim.Native.Nat.{ℕ, _<_, _≤_}
+use Prim.Native.Nat.{_<_, _≤_}
 use lib.ListN.{length}
 use Rattle.capsule_body.specs.Body.{offset, itemEnd, item}
 use Rattle.capsule_body.proofs.Body.{item-in}
@@ -16,12 +15,6 @@ inside : (c : tie.After-item-end)
 inside c =
     let s = c .before .before .before in
     item-in (s .args .b .now) (s .pre .0) (s .args .k) (omega arith)
-
-item-start-requires : tie.Need-item-start-requires
-item-start-requires c κs = search needs
-
-item-end-requires : tie.Need-item-end-requires
-item-end-requires c κs = search needs
 
 sub-result : tie.Need-sub-result
 sub-result c = omega (arith, inside c)
@@ -38,11 +31,4 @@ returns c = rw (c .before .before .item-start .ensures, c .before .item-end .ens
 
 pub item-bytes-spec : {M : Type 1} → statement M
 item-bytes-spec =
-    tie.close
-    (tie.spec
-    item-start-requires
-    item-end-requires
-    sub-result
-    part-result-start
-    part-result-end
-    returns)
+    tie.close (tie.spec (λ c κs. search needs) (λ c κs. search needs) sub-result part-result-start part-result-end returns)

@@ -7,15 +7,6 @@ use borrow.Author.Needs.{needs}
 use Rattle.capsule_body.proofs.item_end.Statement.{statement}
 use Rattle.capsule_body.proofs.item_end.Tie as tie
 
-add-if1 : tie.Need-add-if1
-add-if1 c = search needs
-
-add-item-start : tie.Need-add-item-start
-add-item-start c = search needs
-
-item-start-requires : tie.Need-item-start-requires
-item-start-requires c κs = search needs
-
 returns : tie.Need-returns
 unfolding itemEnd
 returns c =
@@ -27,4 +18,5 @@ unfolding itemEnd
 returns-2 c = let a = c .before .before .args in simp (le-ltb (a .k + 1) (items (a .b .now)) (omega arith))
 
 pub item-end-spec : {M : Type 1} → statement M
-item-end-spec = tie.close (tie.spec add-if1 add-item-start item-start-requires returns returns-2)
+item-end-spec =
+    tie.close (tie.spec (λ c. search needs) (λ c. search needs) (λ c κs. search needs) returns returns-2)

@@ -1,5 +1,4 @@
 -- `item_start` meets its contract: the list of offsets lies in the body. Assumes nothing.
-use borrow.Author.Needs.{needs}
 use native.Mathlib.Omega.{arith}
 use Rattle.capsule_body.specs.Body.{offset}
 use Rattle.capsule_body.proofs.Body.{few-items, list-fits}

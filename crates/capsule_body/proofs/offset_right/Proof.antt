@@ -1,31 +1,14 @@
 -- `offset_right` meets its contract: the tests in the definition's order. Assumes nothing.
-use mathlib.Core.Path.{_≡_, refl, sym, ap, _∙_}
 use borrow.Author.Tests.{lt-leb, le-leb, le-ltb, lt-ltb}
-use Prim.Native.Nat.{ℕ, suc, _+_, _*_, _-_}
-use native.Mathlib.Numerals.{add-one}
+use Prim.Native.Nat.{_+_, _*_, _-_}
 use native.Mathlib.Omega.{arith}
 use lib.ListN.{length}
 use Rattle.fields.specs.Number.{le}
-use Rattle.capsule_body.specs.Body.{offset, listEnd, rises, offsetRight}
+use Rattle.capsule_body.specs.Body.{offset, listEnd, offsetRight}
 use borrow.Author.Needs.{needs}
 use Rattle.capsule_body.proofs.Body.{rises-first, rises-next}
 use Rattle.capsule_body.proofs.offset_right.Statement.{statement}
 use Rattle.capsule_body.proofs.offset_right.Tie as tie
-
-mul-read64 : tie.Need-mul-read64
-mul-read64 c = search needs
-
-add-read64 : tie.Need-add-read64
-add-read64 c = search needs
-
-read64-requires : tie.Need-read64-requires
-read64-requires c κs = search needs
-
-mul-if1 : tie.Need-mul-if1
-mul-if1 c = search needs
-
-add-if1 : tie.Need-add-if1
-add-if1 c = search needs
 
 returns : tie.Need-returns
 unfolding offsetRight offset
@@ -47,12 +30,6 @@ returns-3 c =
     simp
     (le-leb (listEnd (a .b .now)) o (omega arith), lt-ltb o (length (a .b .now)) (omega arith), rises-first (a .b .now) (a .k) (c .if3 .taken))
 
-mul-read64-2 : tie.Need-mul-read64-2
-mul-read64-2 c = search needs
-
-read64-requires-2 : tie.Need-read64-requires-2
-read64-requires-2 c κs = search needs
-
 returns-4 : tie.Need-returns-4
 unfolding offsetRight offset
 returns-4 c =
@@ -66,15 +43,5 @@ returns-4 c =
 pub offset-right-spec : {M : Type 1} → statement M
 offset-right-spec =
     tie.close
-    (tie.spec
-    mul-read64
-    add-read64
-    read64-requires
-    mul-if1
-    add-if1
-    returns
-    returns-2
-    returns-3
-    mul-read64-2
-    read64-requires-2
-    returns-4)
+    (tie.spec (λ c. search needs) (λ c. search needs) (λ c κs. search needs) (λ c. search needs) (λ c. search needs) returns returns-2
+    returns-3 (λ c. search needs) (λ c κs. search needs) returns-4)

@@ -5,7 +5,6 @@ use mathlib.Core.Bool.{true}
 use Prim.Native.Nat.{_-_, _≤_}
 use native.Mathlib.Omega.{arith}
 use borrow.Author.Tests.{not-true, not-false}
-use lib.ListN.{length}
 use Rattle.capsule_body.specs.Body.{all, items, offsetRight}
 use Rattle.capsule_body.proofs.Body.{all-none, all-more, all-fails, all-whole, list-outside}
 use Rattle.capsule_body.proofs.offsets_right.Statement.{statement}
@@ -17,20 +16,11 @@ Inv-loop b n k₀ k = (k ≤ n) × (all (offsetRight b) k ≡ true)
 abbrev μ-loop : tie.MeasureT-loop
 μ-loop b n k₀ k = n - k
 
-mul-if1 : tie.Need-mul-if1 Inv-loop μ-loop
-mul-if1 c = search needs
-
-add-if1 : tie.Need-add-if1 Inv-loop μ-loop
-add-if1 c = search needs
-
 returns : tie.Need-returns Inv-loop μ-loop
 returns c = let s = c .before .before in sym (list-outside (s .args .b .now) (s .pre .0) (omega arith))
 
 loop-holds : tie.Need-loop-holds Inv-loop μ-loop
 loop-holds c = (omega arith, all-none (offsetRight (c .before .before .args .b .now)))
-
-offset-right-requires : tie.Need-offset-right-requires Inv-loop μ-loop
-offset-right-requires c κs = search needs
 
 returns-2 : tie.Need-returns-2 Inv-loop μ-loop
 returns-2 c =
@@ -38,12 +28,6 @@ returns-2 c =
     let s = l .before .before .before in
     let r = c .before .offset-right in
     sym (all-fails (offsetRight (s .args .b .now)) (items (s .args .b .now)) (l .loop .k) (omega arith) (sym (r .ensures) ∙ not-true (r .result) (c .if2 .taken)))
-
-add-k : tie.Need-add-k Inv-loop μ-loop
-add-k c = search needs
-
-loop-less : tie.Need-loop-less Inv-loop μ-loop
-loop-less c = omega arith
 
 loop-again : tie.Need-loop-again Inv-loop μ-loop
 loop-again c =
@@ -61,16 +45,5 @@ returns-3 c =
 pub offsets-right-spec : {M : Type 1} → statement M
 offsets-right-spec =
     tie.close
-    (tie.spec
-    Inv-loop
-    μ-loop
-    mul-if1
-    add-if1
-    returns
-    loop-holds
-    offset-right-requires
-    returns-2
-    add-k
-    loop-less
-    loop-again
-    returns-3)
+    (tie.spec Inv-loop μ-loop (λ c. search needs) (λ c. search needs) returns loop-holds (λ c κs. search needs) returns-2
+    (λ c. search needs) (λ c. omega arith) loop-again returns-3)

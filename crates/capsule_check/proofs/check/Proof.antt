@@ -8,7 +8,9 @@ use lib.ListN.{length}
 use Rattle.capsule_header.specs.Header.{sizesRight, flags, flagsRight, guidRight, body}
 use Rattle.capsule_body.specs.Body.{bodyRight}
 use Rattle.capsule_payloads.specs.Payload.{payloadsRight}
-use Rattle.capsule_check.specs.Verdict.{verdict}
+use Rattle.refusals.specs.declared.Refusal.the-variants.{CapsulePayload}
+use Rattle.capsule_check.specs.Verdict.{unless, verdict}
+use Rattle.capsule_check.specs.declared.Verdict.the-variants.{Faultless}
 use Rattle.capsule_check.proofs.check.Statement.{statement}
 use Rattle.capsule_check.proofs.check.Tie as tie
 
@@ -42,20 +44,11 @@ returns : tie.Need-returns
 unfolding verdict
 returns c = rw (lt-leb 28 (length (c .before .before .args .s .now)) (c .if1 .taken))
 
-sizes-right-requires : tie.Need-sizes-right-requires
-sizes-right-requires c κs = search needs
-
 returns-2 : tie.Need-returns-2
 unfolding verdict
 returns-2 c =
     let r = c .before .sizes-right in
     rw (long-enough (c .before .before), sym (r .ensures) ∙ not-true (r .result) (c .if2 .taken))
-
-read32-requires : tie.Need-read32-requires
-read32-requires c κs = search needs
-
-flags-right-requires : tie.Need-flags-right-requires
-flags-right-requires c κs = search needs
 
 returns-3 : tie.Need-returns-3
 unfolding verdict
@@ -63,9 +56,6 @@ returns-3 c =
     let r = c .before .flags-right in
     let b = c .before .before .before in
     rw (long-enough (b .before .before), sized b, flags-read (c .before) ∙ not-true (r .result) (c .if3 .taken))
-
-guid-right-requires : tie.Need-guid-right-requires
-guid-right-requires c κs = search needs
 
 returns-4 : tie.Need-returns-4
 unfolding verdict
@@ -77,9 +67,6 @@ returns-4 c =
 
 body-of-requires : tie.Need-body-of-requires
 body-of-requires c κs = sized (c .before .before .before .before .before)
-
-body-right-requires : tie.Need-body-right-requires
-body-right-requires c κs = search needs
 
 returns-5 : tie.Need-returns-5
 unfolding verdict
@@ -95,41 +82,26 @@ payloads-right-requires c κs =
     let r = c .before .body-right in
     sym (r .ensures) ∙ not-false (r .result) (c .if5 .left)
 
-returns-6 : tie.Need-returns-6
+-- the verdict, up to the payloads
+up-to-15 : (c : tie.After-payloads-right)
+    → verdict (c .before .before .before .before .before .before .before .before .before .before .before .before .before .args .s .now)
+    ≡ unless (c .payloads-right .result) CapsulePayload Faultless
 unfolding verdict
-returns-6 c =
-    let r = c .before .payloads-right in
-    let d = c .before .before in
+up-to-15 c =
+    let d = c .before in
     let g = d .before .before .before in
     let f = g .before .before in
     let b = f .before .before .before in
-    rw (long-enough (b .before .before), sized b, flagged f, named g, bodied d, payloads-read (c .before) ∙ not-true (r .result) (c .if6 .taken))
+    rw (long-enough (b .before .before), sized b, flagged f, named g, bodied d, payloads-read c)
+
+returns-6 : tie.Need-returns-6
+returns-6 c = rw (up-to-15 (c .before), not-true (c .before .payloads-right .result) (c .if6 .taken))
 
 returns-7 : tie.Need-returns-7
-unfolding verdict
-returns-7 c =
-    let r = c .before .payloads-right in
-    let d = c .before .before in
-    let g = d .before .before .before in
-    let f = g .before .before in
-    let b = f .before .before .before in
-    rw (long-enough (b .before .before), sized b, flagged f, named g, bodied d, payloads-read (c .before) ∙ not-false (r .result) (c .if6 .left))
+returns-7 c = rw (up-to-15 (c .before), not-false (c .before .payloads-right .result) (c .if6 .left))
 
 pub check-spec : {M : Type 1} → statement M
 check-spec =
     tie.close
-    (tie.spec
-    returns
-    sizes-right-requires
-    returns-2
-    read32-requires
-    flags-right-requires
-    returns-3
-    guid-right-requires
-    returns-4
-    body-of-requires
-    body-right-requires
-    returns-5
-    payloads-right-requires
-    returns-6
-    returns-7)
+    (tie.spec returns (λ c κs. search needs) returns-2 (λ c κs. search needs) (λ c κs. search needs) returns-3 (λ c κs. search needs)
+    returns-4 body-of-requires (λ c κs. search needs) returns-5 payloads-right-requires returns-6 returns-7)

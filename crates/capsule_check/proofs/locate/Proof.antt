@@ -1,15 +1,9 @@
 -- `locate` meets its contract. Assumes nothing.
 use borrow.Author.Needs.{needs}
-use mathlib.Core.Path.{_≡_, sym, _∙_}
+use mathlib.Core.Path.{sym, _∙_}
 use Rattle.capsule_check.proofs.Places.{located-refused}
 use Rattle.capsule_check.proofs.locate.Statement.{statement}
 use Rattle.capsule_check.proofs.locate.Tie as tie
-
-check-requires : tie.Need-check-requires
-check-requires c κs = search needs
-
-enum-known-checked : tie.Need-enum-known-checked
-enum-known-checked c = search needs
 
 enum-told : tie.Need-enum-told
 enum-told c = search needs
@@ -22,10 +16,6 @@ returns c =
     let a = c .before .before .before .before .before .args in
     sym (located-refused (a .s .now) (a .k) (c .before .checked .given .0 .0) (sym (c .before .before .before .check .ensures) ∙ c .before .checked .given .1))
 
-returns-2 : tie.Need-returns-2
-returns-2 c = search needs
-
 pub locate-spec : {M : Type 1} → statement M
 locate-spec =
-    tie.close
-    (tie.spec check-requires enum-known-checked enum-told pick-requires returns returns-2)
+    tie.close (tie.spec (λ c κs. search needs) (λ c. search needs) enum-told pick-requires returns (λ c. search needs))

@@ -9,10 +9,9 @@ use lib.ListN.{length}
 use Rattle.fields.specs.Number.{le}
 use Rattle.capsule_header.specs.Header.{headerSize, body}
 use Rattle.capsule_body.specs.Body.{drivers, payloads, items, offset, itemEnd, bodyRight}
-use Rattle.capsule_header.proofs.Header.{header-in, body-length}
-use Rattle.capsule_body.proofs.Body.{list-fits, few-items, item-in}
+use Rattle.capsule_header.proofs.Header.{header-in}
+use Rattle.capsule_body.proofs.Body.{list-fits}
 use Rattle.capsule_check.specs.Item.{itemStartIn, itemEndIn}
-use Rattle.capsule_check.specs.declared.Item.the-variants.{Driver, Payload}
 use Rattle.capsule_check.proofs.Faultless.{faultless, Sound}
 use Rattle.capsule_check.proofs.Places.{located-none, located-driver, located-payload, Inside, item-inside}
 use Rattle.capsule_check.proofs.pick.Statement.{statement}
@@ -50,26 +49,14 @@ asked c h =
 read32-requires : tie.Need-read32-requires
 read32-requires c κs = omega (arith, header-in (c .before .args .s .now) (sound (c .before) .sizes) .0, header-in (c .before .args .s .now) (sound (c .before) .sizes) .1)
 
-cast-body : tie.Need-cast-body
-cast-body c = search needs
-
 body-of-requires : tie.Need-body-of-requires
 body-of-requires c κs = sound (c .before .before) .sizes
 
 read16-requires : tie.Need-read16-requires
 read16-requires c κs = omega (arith, room c)
 
-cast-first : tie.Need-cast-first
-cast-first c = search needs
-
 read16-requires-2 : tie.Need-read16-requires-2
 read16-requires-2 c κs = omega (arith, room (c .before))
-
-cast-n : tie.Need-cast-n
-cast-n c = search needs
-
-add-n : tie.Need-add-n
-add-n c = search needs
 
 returns : tie.Need-returns
 returns c =
@@ -141,19 +128,5 @@ returns-3 c =
 pub pick-spec : {M : Type 1} → statement M
 pick-spec =
     tie.close
-    (tie.spec
-    read32-requires
-    cast-body
-    body-of-requires
-    read16-requires
-    cast-first
-    read16-requires-2
-    cast-n
-    add-n
-    returns
-    item-start-requires
-    add-start
-    item-end-requires
-    add-end
-    returns-2
-    returns-3)
+    (tie.spec read32-requires (λ c. search needs) body-of-requires read16-requires (λ c. search needs) read16-requires-2 (λ c. search needs)
+    (λ c. search needs) returns item-start-requires add-start item-end-requires add-end returns-2 returns-3)

@@ -1,19 +1,14 @@
 -- `body_of` meets its contract: the header ends in the capsule. Assumes nothing.
 use borrow.Author.Needs.{needs}
-use mathlib.Core.Path.{ap, _∙_}
-use Prim.Native.Nat.{ℕ, _-_}
+use Prim.Native.Nat.{_-_}
 use native.Mathlib.Omega.{arith}
-use lib.ListN.{length, take, drop}
-use Rattle.capsule_header.specs.Header.{headerSize, body}
+use Rattle.capsule_header.specs.Header.{headerSize}
 use Rattle.capsule_header.proofs.Header.{header-in, body-rest}
 use Rattle.capsule_header.proofs.body_of.Statement.{statement}
 use Rattle.capsule_header.proofs.body_of.Tie as tie
 
 read32-requires : tie.Need-read32-requires
 read32-requires c κs = omega (arith, header-in (c .before .args .s .now) (c .before .pre) .0, header-in (c .before .args .s .now) (c .before .pre) .1)
-
-cast-at : tie.Need-cast-at
-cast-at c = search needs
 
 sub-result : tie.Need-sub-result
 unfolding headerSize
@@ -22,9 +17,6 @@ sub-result c = omega (arith, header-in (c .before .before .args .s .now) (c .bef
 part-result-start : tie.Need-part-result-start
 unfolding headerSize
 part-result-start c = omega (arith, header-in (c .before .before .args .s .now) (c .before .before .pre) .1)
-
-part-result-end : tie.Need-part-result-end
-part-result-end c = search needs
 
 returns : tie.Need-returns
 unfolding headerSize
@@ -35,5 +27,4 @@ returns c =
 
 pub body-of-spec : {M : Type 1} → statement M
 body-of-spec =
-    tie.close
-    (tie.spec read32-requires cast-at sub-result part-result-start part-result-end returns)
+    tie.close (tie.spec read32-requires (λ c. search needs) sub-result part-result-start (λ c. search needs) returns)

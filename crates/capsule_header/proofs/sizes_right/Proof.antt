@@ -7,12 +7,6 @@ use borrow.Author.Needs.{needs}
 use Rattle.capsule_header.proofs.sizes_right.Statement.{statement}
 use Rattle.capsule_header.proofs.sizes_right.Tie as tie
 
-read32-requires : tie.Need-read32-requires
-read32-requires c κs = search needs
-
-read32-requires-2 : tie.Need-read32-requires-2
-read32-requires-2 c κs = search needs
-
 returns : tie.Need-returns
 unfolding sizesRight headerSize
 returns c =
@@ -25,9 +19,6 @@ returns-2 c =
     let s = c .before .before .before .before .before .args .s .now in
     simp (le-leb 28 (le 4 s 16) (omega arith), lt-leb (le 4 s 16) (le 4 s 24) (omega arith))
 
-cast-result : tie.Need-cast-result
-cast-result c = search needs
-
 returns-3 : tie.Need-returns-3
 unfolding sizesRight headerSize capsuleImageSize
 returns-3 c =
@@ -37,4 +28,4 @@ returns-3 c =
 
 pub sizes-right-spec : {M : Type 1} → statement M
 sizes-right-spec =
-    tie.close (tie.spec read32-requires read32-requires-2 returns returns-2 cast-result returns-3)
+    tie.close (tie.spec (λ c κs. search needs) (λ c κs. search needs) returns returns-2 (λ c. search needs) returns-3)

@@ -1,9 +1,8 @@
 -- `payload_right` meets its contract. Assumes nothing.
-use mathlib.Core.Path.{sym, _∙_}
+use mathlib.Core.Path.{sym}
 use borrow.Author.Tests.{not-true, not-false}
 use native.Mathlib.Omega.{arith}
-use Rattle.fields.specs.Number.{le}
-use Rattle.capsule_payloads.specs.Payload.{version, versionRight, imageSize, vendorCodeSize, payloadRight}
+use Rattle.capsule_payloads.specs.Payload.{version, imageSize, vendorCodeSize, payloadRight}
 use Rattle.capsule_payloads.proofs.Payload.{header-ends, short-fails}
 use borrow.Author.Needs.{needs}
 use Rattle.capsule_payloads.proofs.payload_right.Statement.{statement}
@@ -12,33 +11,12 @@ use Rattle.capsule_payloads.proofs.payload_right.Tie as tie
 returns : tie.Need-returns
 returns c = sym (short-fails (c .before .before .args .p .now) (c .if1 .taken))
 
-read32-requires : tie.Need-read32-requires
-read32-requires c κs = search needs
-
-version-right-requires : tie.Need-version-right-requires
-version-right-requires c κs = search needs
-
 returns-2 : tie.Need-returns-2
 unfolding payloadRight version
 returns-2 c =
     let v = c .before in
     let e = not-true (v .version-right .result) (c .if2 .taken) in
     rw (← v .before .read32 .ensures, ← v .version-right .ensures, e)
-
-read32-requires-2 : tie.Need-read32-requires-2
-read32-requires-2 c κs = search needs
-
-cast-image : tie.Need-cast-image
-cast-image c = search needs
-
-read32-requires-3 : tie.Need-read32-requires-3
-read32-requires-3 c κs = search needs
-
-cast-vendor : tie.Need-cast-vendor
-cast-vendor c = search needs
-
-header-length-requires : tie.Need-header-length-requires
-header-length-requires c κs = search needs
 
 add-result : tie.Need-add-result
 add-result c = omega (arith, c .header-length .ensures, header-ends (c .before .before .before .before .before .read32 .result))
@@ -57,16 +35,5 @@ returns-3 c =
 pub payload-right-spec : {M : Type 1} → statement M
 payload-right-spec =
     tie.close
-    (tie.spec
-    returns
-    read32-requires
-    version-right-requires
-    returns-2
-    read32-requires-2
-    cast-image
-    read32-requires-3
-    cast-vendor
-    header-length-requires
-    add-result
-    add-result-2
-    returns-3)
+    (tie.spec returns (λ c κs. search needs) (λ c κs. search needs) returns-2 (λ c κs. search needs) (λ c. search needs)
+    (λ c κs. search needs) (λ c. search needs) (λ c κs. search needs) add-result add-result-2 returns-3)

@@ -2,11 +2,9 @@
 use borrow.Author.Needs.{needs}
 use mathlib.Core.Path.{_≡_, sym, ap, _∙_}
 use mathlib.Core.Bool.{true}
-use mathlib.Core.List.{List}
 use Prim.Native.Nat.{ℕ, _+_, _-_, _≤_}
 use native.Mathlib.Omega.{arith}
 use borrow.Author.Tests.{not-true, not-false}
-use lib.ListN.{length}
 use Rattle.capsule_payloads.specs.Payload.{payloadRight}
 use Rattle.capsule_body.specs.Body.{all, drivers, payloads, item}
 use Rattle.capsule_payloads.specs.Payload.{payloadAtRight, payloadsRight}
@@ -23,14 +21,8 @@ abbrev μ-loop : tie.MeasureT-loop
 read16-requires : tie.Need-read16-requires Inv-loop μ-loop
 read16-requires c κs = omega (arith, list-fits (c .before .args .b .now) (c .before .pre))
 
-cast-first : tie.Need-cast-first Inv-loop μ-loop
-cast-first c = search needs
-
 read16-requires-2 : tie.Need-read16-requires-2 Inv-loop μ-loop
 read16-requires-2 c κs = omega (arith, list-fits (c .before .before .args .b .now) (c .before .before .pre))
-
-cast-count : tie.Need-cast-count Inv-loop μ-loop
-cast-count c = search needs
 
 loop-holds : tie.Need-loop-holds Inv-loop μ-loop
 unfolding drivers payloads
@@ -50,9 +42,6 @@ item-bytes-requires : tie.Need-item-bytes-requires Inv-loop μ-loop
 item-bytes-requires c κs =
     let s = c .before .before .before .before .before in
     (s .pre, omega arith, omega arith)
-
-payload-right-requires : tie.Need-payload-right-requires Inv-loop μ-loop
-payload-right-requires c κs = search needs
 
 -- what the call says of the payload at hand
 judged-at : (c : tie.After-payload-right Inv-loop μ-loop)
@@ -77,9 +66,6 @@ add-j c =
     let s = c .before .before .before .before .before .before .before .before in
     omega (arith, few-items (s .args .b .now) (s .pre))
 
-loop-less : tie.Need-loop-less Inv-loop μ-loop
-loop-less c = omega arith
-
 loop-again : tie.Need-loop-again Inv-loop μ-loop
 loop-again c =
     let l = c .before .before .before .before in
@@ -97,20 +83,5 @@ returns-2 c =
 pub payloads-right-spec : {M : Type 1} → statement M
 payloads-right-spec =
     tie.close
-    (tie.spec
-    Inv-loop
-    μ-loop
-    read16-requires
-    cast-first
-    read16-requires-2
-    cast-count
-    loop-holds
-    add-item-bytes
-    add-item-bytes-2
-    item-bytes-requires
-    payload-right-requires
-    returns
-    add-j
-    loop-less
-    loop-again
-    returns-2)
+    (tie.spec Inv-loop μ-loop read16-requires (λ c. search needs) read16-requires-2 (λ c. search needs) loop-holds add-item-bytes
+    add-item-bytes-2 item-bytes-requires (λ c κs. search needs) returns add-j (λ c. omega arith) loop-again returns-2)

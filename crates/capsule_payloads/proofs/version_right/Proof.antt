@@ -4,13 +4,8 @@ use Rattle.capsule_payloads.specs.Payload.{versionRight}
 use Rattle.capsule_payloads.proofs.version_right.Statement.{statement}
 use Rattle.capsule_payloads.proofs.version_right.Tie as tie
 
-returns : tie.Need-returns
-unfolding versionRight
-returns c = simp (eq-eqb (c .before .args .version) 1 (c .if1 .taken))
-
-returns-2 : tie.Need-returns-2
-unfolding versionRight
-returns-2 c = simp (ne-eqb (c .before .args .version) 1 (c .if1 .left))
-
 pub version-right-spec : {M : Type 1} → statement M
-version-right-spec = tie.close (tie.spec returns returns-2)
+unfolding versionRight
+version-right-spec =
+    tie.close
+    (tie.spec (λ c. simp (eq-eqb (c .before .args .version) 1 (c .if1 .taken))) (λ c. simp (ne-eqb (c .before .args .version) 1 (c .if1 .left))))

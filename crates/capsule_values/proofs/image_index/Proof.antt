@@ -1,79 +1,30 @@
 -- `image_index` meets its contract. Assumes nothing.
 use borrow.Author.Needs.{needs}
-use mathlib.Core.Path.{_≡_, sym, _∙_}
-use mathlib.Core.Bool.{true}
-use Prim.Native.Nat.{_≤_}
-use lib.ListN.{length}
-use Rattle.capsule_body.specs.Body.{part}
-use Rattle.capsule_payloads.specs.Payload.{payloadRight}
-use Rattle.capsule_check.specs.Item.{located}
-use Rattle.capsule_check.specs.declared.Item.the-variants.{Payload}
-use Rattle.capsule_check.proofs.Places.{payload-inside, payload-holds}
+use native.Mathlib.Omega.{arith}
+use Rattle.capsule_payloads.specs.Payload.{imageIndex}
+use Rattle.capsule_payloads.proofs.Payload.{first-header}
+use Rattle.capsule_values.proofs.Shown.{payload-right, value-shown, zeros-shown}
 use Rattle.capsule_values.proofs.image_index.Statement.{statement}
 use Rattle.capsule_values.proofs.image_index.Tie as tie
 
--- the item that was found
-found : (c : tie.After-found)
-    → let a = c .before .before .before .before .args in
-    located (a .s .now) (a .k) ≡ Payload (c .found .given .0 .0) (c .found .given .0 .1 .0)
-found c = sym (c .before .before .locate .ensures) ∙ c .found .given .1
-
--- it lies in the capsule, and its payload is right
-held : (c : tie.After-found)
-    → let a = c .before .before .before .before .args in
-    let g = c .found .given .0 in
-    (g .0 ≤ g .1 .0) × (g .1 .0 ≤ length (a .s .now)) × (payloadRight (part (a .s .now) (g .0) (g .1 .0)) ≡ true)
-held c =
-    let a = c .before .before .before .before .args in
-    let g = c .found .given .0 in
-    let i = payload-inside (a .s .now) (a .k) (g .0) (g .1 .0) (found c) in
-    (i .0, i .1, payload-holds (a .s .now) (a .k) (g .0) (g .1 .0) (found c))
-
-locate-requires : tie.Need-locate-requires
-locate-requires c κs = search needs
-
-enum-known-found : tie.Need-enum-known-found
-enum-known-found c = search needs
-
-sub-index-of : tie.Need-sub-index-of
-sub-index-of c = held (c .before) .0
-
-part-index-of-start : tie.Need-part-index-of-start
-part-index-of-start c = held (c .before) .0
-
-part-index-of-end : tie.Need-part-index-of-end
-part-index-of-end c = held (c .before) .1
-
-index-of-requires : tie.Need-index-of-requires
-index-of-requires c κs = held (c .before .before) .2
-
-enum-told : tie.Need-enum-told
-enum-told c = search needs
-
-enum-told-2 : tie.Need-enum-told-2
-enum-told-2 c = search needs
+shared-slice-read-result : tie.Need-shared-slice-read-result
+shared-slice-read-result c =
+    let q = c .before .before in
+    let a = q .before .before .args in
+    omega (arith, first-header (q .payload .result .now) (payload-right (a .s .now) (a .k) (q .payload .result .now) (q .payload .ensures) (c .before .if1 .taken)))
 
 returns : tie.Need-returns
-returns c = rw (found (c .before .before .before)) (c .index-of .ensures)
+unfolding imageIndex
+returns c =
+    let q = c .before .before in
+    let a = q .before .before .args in
+    rw (value-shown (a .s .now) (a .k) (q .payload .result .now) (q .payload .ensures) imageIndex 0 (c .before .if1 .taken))
 
 returns-2 : tie.Need-returns-2
-returns-2 c = rw (sym (c .before .before .locate .ensures) ∙ c .enum-told .given .1)
-
-returns-3 : tie.Need-returns-3
-returns-3 c = rw (sym (c .before .before .locate .ensures) ∙ c .enum-told2 .given .1)
+returns-2 c =
+    let q = c .before in
+    let a = q .before .before .args in
+    rw (zeros-shown (a .s .now) (a .k) (q .payload .result .now) (q .payload .ensures) imageIndex 0 (λ h. absurd (omega arith)))
 
 pub image-index-spec : {M : Type 1} → statement M
-image-index-spec =
-    tie.close
-    (tie.spec
-    locate-requires
-    enum-known-found
-    sub-index-of
-    part-index-of-start
-    part-index-of-end
-    index-of-requires
-    enum-told
-    enum-told-2
-    returns
-    returns-2
-    returns-3)
+image-index-spec = tie.close (tie.spec (λ c κs. search needs) shared-slice-read-result returns returns-2)

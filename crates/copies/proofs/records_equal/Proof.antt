@@ -1,6 +1,4 @@
 -- `records_equal` meets its contract. Assumes nothing.
-use mathlib.Core.Path.{_≡_, refl, sym, ap, _∙_}
-use native.Mathlib.Omega.{arith}
 use borrow.Author.Needs.{needs}
 use Rattle.copies.specs.Copies.{recordsEqual}
 use Rattle.copies.proofs.records_equal.Statement.{statement}
@@ -22,8 +20,4 @@ returns c = rw (c .same-bytes .ensures, c .before .before .record-in-copy0 .ensu
 pub records-equal-spec : {M : Type 1} → statement M
 records-equal-spec =
     tie.close
-    (tie.spec
-    record-in-copy0-requires
-    record-in-copy1-requires
-    same-bytes-requires
-    returns)
+    (tie.spec record-in-copy0-requires record-in-copy1-requires same-bytes-requires returns)

@@ -3,12 +3,11 @@ use mathlib.Core.Logic.{⊎-elim}
 use lib.Seq.{ext-getD}
 use lib.ListN.{length, getD}
 use mathlib.Core.List.{List}
-use Prim.Native.Nat.{ℕ, _+_, _*_, _-_, _≤_, _<_}
-use mathlib.Core.Path.{_≡_, refl, sym, ap, _∙_}
+use Prim.Native.Nat.{ℕ, _-_, _≤_, _<_}
+use mathlib.Core.Path.{_≡_, refl, sym, ap}
 use native.Mathlib.Omega.{arith}
 use borrow.Author.Needs.{needs}
 use Rattle.fields.proofs.Guid.{same-refl, same-false}
-use Rattle.fields.specs.Guid.{same}
 use Rattle.fields.proofs.Tests.{le-or-lt}
 use Rattle.copies.proofs.same_bytes.Statement.{statement}
 use Rattle.copies.proofs.same_bytes.Tie as tie
@@ -67,15 +66,5 @@ returns-3 c =
 pub same-bytes-spec : {M : Type 1} → statement M
 same-bytes-spec =
     tie.close
-    (tie.spec
-    Inv-loop
-    μ-loop
-    returns
-    loop-holds
-    shared-slice-read-if2
-    shared-slice-read-if2-2
-    returns-2
-    add-i
-    loop-less
-    loop-again
-    returns-3)
+    (tie.spec Inv-loop μ-loop returns loop-holds shared-slice-read-if2 shared-slice-read-if2-2 returns-2 add-i loop-less
+    loop-again returns-3)

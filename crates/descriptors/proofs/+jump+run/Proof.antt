@@ -1,19 +1,21 @@
--- `run` and `jump` meet their contracts. With l descriptors left `run` calls either at l - 1, and `jump` calls `run` at the same l:
--- the measure is 2l for `run` and 2l + 1 for `jump`. Assumes nothing.
+-- `run` and `jump` meet their contracts. With l descriptors left `run` calls either at l - 1, and `jump` calls `run` at
+-- the same l: the measure is 2l for `run` and 2l + 1 for `jump`. Assumes nothing.
 use borrow.Author.Needs.{needs}
 use mathlib.Core.Path.{_≡_, refl, sym, _∙_}
 use mathlib.Core.Bool.{true}
+use mathlib.Core.List.{List}
 use Prim.Native.Nat.{ℕ, _+_, _-_, _*_, _<_, _≤_}
 use native.Mathlib.Omega.{arith}
 use borrow.Author.Tests.{eq-eqb, ne-eqb, le-leb, lt-leb, not-true, not-false}
-use lib.ListN.{length, length-set}
+use lib.ListN.{length, set, length-set}
 use borrow.Fn.Kinds.{In}
 use borrow.Fn.PlainCycle.{Measures, is, falls, and}
 use Rattle.refusals.specs.declared.Refusal.the-variants.{BlockOutside, TotalLength}
 use Rattle.window.specs.Window.{descriptorFits}
-use Rattle.descriptors.specs.Reading.{refused, walk, jumpOrEnd, dataBlock, totalLimit}
+use Rattle.descriptors.specs.Reading.{Reading, refused, walk, jumpOrEnd, dataBlock, totalLimit}
 use Rattle.descriptors.specs.Scratch.{Kept}
-use Rattle.descriptors.proofs.Steps.{descriptor-ends, bad-address, went-on, ended, none-left, below, jumped-on}
+use Rattle.descriptors.specs.declared.Read.{Read}
+use Rattle.descriptors.proofs.Steps.{rest, descriptor-ends, bad-address, went-on, ended, none-left, below, jumped-on}
 use Rattle.descriptors.proofs.jump.Reads as jump
 use Rattle.descriptors.proofs.jump.Kinds as jump-kinds
 use Rattle.descriptors.proofs.+jump+run.Lts-jump as jump-lts
@@ -52,9 +54,6 @@ abbrev run-with : ℕ → run-lts.Claims
 run-with t =
     (descriptor-fits-reads.Asked, descriptor-fits-reads.Learnt, read64-reads.Asked, read64-reads.Learnt, jump-below t, jump.Post, block-fits-reads.Asked, block-fits-reads.Learnt, run-below t, run.Post)
 
-jump-sub-count : (t : ℕ) → jump-lts.Need-sub-count (jump-with t) (jump-at t) jump.Post
-jump-sub-count t c = search needs
-
 jump-returns : (t : ℕ) → jump-lts.Need-returns (jump-with t) (jump-at t) jump.Post
 jump-returns t c =
     let s = c .before .before .args in
@@ -72,9 +71,6 @@ jump-returns-3 t c =
     jumped-on (s .w .now) (s .base) (s .address) (s .total) (s .left) (256 - s .left) (s .ds .now) _ _ (c .before .before .if1 .left)
     (below (s .w .now) (s .base) (s .address) (s .total) (s .left) (256 - s .left) (s .ds .now) _ (c .before .if2 .left) (c .if3 .taken))
 
-jump-run-requires : (t : ℕ) → jump-lts.Need-run-requires (jump-with t) (jump-at t) jump.Post
-jump-run-requires t c κs = omega arith
-
 jump-returns-4 : (t : ℕ) → jump-lts.Need-returns-4 (jump-with t) (jump-at t) jump.Post
 jump-returns-4 t c =
     let s = c .before .before .before .before .before .before in
@@ -87,9 +83,6 @@ run-returns : (t : ℕ) → run-lts.Need-returns (run-with t) (run-at t) run.Pos
 run-returns t c =
     let s = c .before .before .args in
     none-left (s .w .now) (s .base) (s .base + s .at) (s .total) (s .left) (256 - s .left) (s .ds .now) _ (c .if1 .taken)
-
-run-descriptor-fits-requires : (t : ℕ) → run-lts.Need-descriptor-fits-requires (run-with t) (run-at t) run.Post
-run-descriptor-fits-requires t c κs = search needs
 
 run-returns-2 : (t : ℕ) → run-lts.Need-returns-2 (run-with t) (run-at t) run.Post
 run-returns-2 t c =
@@ -108,17 +101,8 @@ ends t c =
     let a = c .before .before .before .before .args in
     omega (arith, descriptor-ends (a .base) (length (a .w .now)) (a .base + a .at) (fits t c))
 
-run-sub-k : (t : ℕ) → run-lts.Need-sub-k (run-with t) (run-at t) run.Post
-run-sub-k t c = search needs
-
 run-add-ds : (t : ℕ) → run-lts.Need-add-ds (run-with t) (run-at t) run.Post
 run-add-ds t c = omega (arith, ends t c)
-
-run-mul-ds : (t : ℕ) → run-lts.Need-mul-ds (run-with t) (run-at t) run.Post
-run-mul-ds t c = search needs
-
-run-element-write-ds : (t : ℕ) → run-lts.Need-element-write-ds (run-with t) (run-at t) run.Post
-run-element-write-ds t c = search needs
 
 run-read64-requires : (t : ℕ) → run-lts.Need-read64-requires (run-with t) (run-at t) run.Post
 run-read64-requires t c κs = omega (arith, ends t c)
@@ -129,95 +113,61 @@ run-add-read64 t c = omega (arith, ends t (c .before))
 run-read64-requires-2 : (t : ℕ) → run-lts.Need-read64-requires-2 (run-with t) (run-at t) run.Post
 run-read64-requires-2 t c κs = omega (arith, ends t (c .before))
 
-run-sub-jump : (t : ℕ) → run-lts.Need-sub-jump (run-with t) (run-at t) run.Post
-run-sub-jump t c = search needs
-
-run-jump-requires : (t : ℕ) → run-lts.Need-jump-requires (run-with t) (run-at t) run.Post
-run-jump-requires t c κs = simp length-set (omega arith)
+-- past the address test, what follows goes by the two numbers that were read
+on : (t : ℕ) (q : run-lts.After-read642 (run-with t) (run-at t) run.Post) (new : List ℕ) (r : Read) (X : Reading)
+    → let a = q .before .before .before .before .before .before .args in
+    rest (a .left - 1) (a .w .now) (a .base) (a .base + a .at) (a .total) (q .before .read64 .result) (q .read642 .result) ≡ X
+    → Kept X (256 - (a .left - 1)) (set (a .ds .now) (256 - a .left) (a .base + a .at)) new r
+    → Kept (walk (a .left) (a .w .now) (a .base) (a .base + a .at) (a .total)) (256 - a .left) (a .ds .now) new r
+on t q new r X ex h =
+    let f = q .before .before in
+    let s = f .before .before .before .before in
+    let a = s .args in
+    went-on (a .w .now) (a .base) (a .at) (a .total) (a .left) (a .ds .now) new (f .before .before .if1 .left)
+    r (q .before .read64 .result) (q .read642 .result) (fits t f) (q .before .read64 .ensures) (q .read642 .ensures) (s .pre .1 .0) (s .pre .1 .3) X ex h
 
 run-returns-3 : (t : ℕ) → run-lts.Need-returns-3 (run-with t) (run-at t) run.Post
 run-returns-3 t c =
     let q = c .before .before .before in
-    let f = q .before .before in
-    let s = f .before .before .before .before in
-    let a = s .args in
-    let size = q .before .read64 in
-    let address = q .read642 in
-    went-on (a .w .now) (a .base) (a .at) (a .total) (a .left) (a .ds .now) _ (f .before .before .if1 .left)
-    _ (size .result) (address .result) (fits t f) (size .ensures) (address .ensures) (s .pre .1 .0) (s .pre .1 .3)
-    (jumpOrEnd (address .result) (a .total) (λ next. walk (a .left - 1) (a .w .now) (a .base) next (a .total)))
+    let a = q .before .before .before .before .before .before .args in
+    on t q _ _ (jumpOrEnd (q .read642 .result) (a .total) (λ next. walk (a .left - 1) (a .w .now) (a .base) next (a .total)))
     (rw (eq-eqb _ _ (c .before .before .if3 .taken)))
     (c .jump .ensures)
-
-run-block-fits-requires : (t : ℕ) → run-lts.Need-block-fits-requires (run-with t) (run-at t) run.Post
-run-block-fits-requires t c κs = search needs
 
 run-returns-4 : (t : ℕ) → run-lts.Need-returns-4 (run-with t) (run-at t) run.Post
 unfolding Kept dataBlock
 run-returns-4 t c =
-    let q = c .before .before .before in
-    let f = q .before .before in
-    let s = f .before .before .before .before in
-    let a = s .args in
-    let size = q .before .read64 in
-    let address = q .read642 in
-    went-on (a .w .now) (a .base) (a .at) (a .total) (a .left) (a .ds .now) _ (f .before .before .if1 .left)
-    _ (size .result) (address .result) (fits t f) (size .ensures) (address .ensures) (s .pre .1 .0) (s .pre .1 .3)
-    (refused BlockOutside)
+    on t (c .before .before .before) _ _ (refused BlockOutside)
     (rw (ne-eqb _ _ (c .before .before .if3 .left), sym (c .before .block-fits .ensures) ∙ not-true _ (c .if4 .taken)))
     refl
-
-run-sub-if5 : (t : ℕ) → run-lts.Need-sub-if5 (run-with t) (run-at t) run.Post
-run-sub-if5 t c = search needs
 
 run-returns-5 : (t : ℕ) → run-lts.Need-returns-5 (run-with t) (run-at t) run.Post
 unfolding Kept dataBlock
 run-returns-5 t c =
     let q = c .before .before .before .before in
-    let f = q .before .before in
-    let s = f .before .before .before .before in
-    let a = s .args in
-    let size = q .before .read64 in
-    let address = q .read642 in
-    went-on (a .w .now) (a .base) (a .at) (a .total) (a .left) (a .ds .now) _ (f .before .before .if1 .left)
-    _ (size .result) (address .result) (fits t f) (size .ensures) (address .ensures) (s .pre .1 .0) (s .pre .1 .3)
-    (refused TotalLength)
+    let a = q .before .before .before .before .before .before .args in
+    on t q _ _ (refused TotalLength)
     (rw (
       ne-eqb _ _ (c .before .before .before .if3 .left),
       sym (c .before .before .block-fits .ensures) ∙ not-false _ (c .before .if4 .left),
-      lt-leb (a .total + size .result) totalLimit (omega arith),
+      lt-leb (a .total + q .before .read64 .result) totalLimit (omega arith),
     ))
     refl
 
 run-add-run : (t : ℕ) → run-lts.Need-add-run (run-with t) (run-at t) run.Post
 run-add-run t c = omega (arith, ends t (c .before .before .before .before .before .before))
 
-run-sub-run : (t : ℕ) → run-lts.Need-sub-run (run-with t) (run-at t) run.Post
-run-sub-run t c = search needs
-
-run-add-run-2 : (t : ℕ) → run-lts.Need-add-run-2 (run-with t) (run-at t) run.Post
-run-add-run-2 t c = search needs
-
-run-run-requires : (t : ℕ) → run-lts.Need-run-requires (run-with t) (run-at t) run.Post
-run-run-requires t c κs = simp length-set (omega arith)
-
 run-returns-6 : (t : ℕ) → run-lts.Need-returns-6 (run-with t) (run-at t) run.Post
 unfolding dataBlock
 run-returns-6 t c =
     let q = c .before .before .before .before .before .before in
-    let f = q .before .before in
-    let s = f .before .before .before .before in
-    let a = s .args in
-    let size = q .before .read64 in
-    let address = q .read642 in
+    let a = q .before .before .before .before .before .before .args in
     let n : a .base + a .at + 16 ≡ a .base + (a .at + 16) = omega arith in
-    went-on (a .w .now) (a .base) (a .at) (a .total) (a .left) (a .ds .now) _ (f .before .before .if1 .left)
-    _ (size .result) (address .result) (fits t f) (size .ensures) (address .ensures) (s .pre .1 .0) (s .pre .1 .3)
-    (walk (a .left - 1) (a .w .now) (a .base) (a .base + (a .at + 16)) (a .total + size .result))
+    on t q _ _ (walk (a .left - 1) (a .w .now) (a .base) (a .base + (a .at + 16)) (a .total + q .before .read64 .result))
     (rw (
       ne-eqb _ _ (c .before .before .before .before .before .if3 .left),
       sym (c .before .before .before .before .block-fits .ensures) ∙ not-false _ (c .before .before .before .if4 .left),
-      le-leb (a .total + size .result) totalLimit (omega arith),
+      le-leb (a .total + q .before .read64 .result) totalLimit (omega arith),
       n,
     ))
     (c .run .ensures)
@@ -225,5 +175,10 @@ run-returns-6 t c =
 pub +jump+run-spec : {M : Type 1} → statement M
 +jump+run-spec =
     close μ-jump μ-run
-    (λ t. jump-lts.spec (jump-with t) (jump-at t) jump.Post (jump-sub-count t) (jump-returns t) (jump-returns-2 t) (jump-returns-3 t) (jump-run-requires t) (jump-returns-4 t))
-    (λ t. run-lts.spec (run-with t) (run-at t) run.Post (run-returns t) (run-descriptor-fits-requires t) (run-returns-2 t) (run-sub-k t) (run-add-ds t) (run-mul-ds t) (run-element-write-ds t) (run-read64-requires t) (run-add-read64 t) (run-read64-requires-2 t) (run-sub-jump t) (run-jump-requires t) (run-returns-3 t) (run-block-fits-requires t) (run-returns-4 t) (run-sub-if5 t) (run-returns-5 t) (run-add-run t) (run-sub-run t) (run-add-run-2 t) (run-run-requires t) (run-returns-6 t))
+    (λ t. jump-lts.spec (jump-with t) (jump-at t) jump.Post (λ c. search needs) (jump-returns t) (jump-returns-2 t) (jump-returns-3 t)
+    (λ c κs. omega arith) (jump-returns-4 t))
+    (λ t. run-lts.spec (run-with t) (run-at t) run.Post (run-returns t) (λ c κs. search needs) (run-returns-2 t) (λ c. search needs)
+    (run-add-ds t) (λ c. search needs) (λ c. search needs) (run-read64-requires t) (run-add-read64 t) (run-read64-requires-2 t)
+    (λ c. search needs) (λ c κs. simp length-set (omega arith)) (run-returns-3 t) (λ c κs. search needs) (run-returns-4 t)
+    (λ c. search needs) (run-returns-5 t) (run-add-run t) (λ c. search needs) (λ c. search needs) (λ c κs. simp length-set (omega arith))
+    (run-returns-6 t))

@@ -2,7 +2,7 @@
 use borrow.Author.Needs.{needs}
 use mathlib.Core.Path.{_≡_, sym, _∙_}
 use mathlib.Core.Bool.{true, false}
-use Prim.Native.Nat.{_+_, _-_, _^_, _≤_}
+use Prim.Native.Nat.{_+_, _-_, _^_}
 use native.Mathlib.Omega.{arith}
 use borrow.Author.Tests.{ltb-false, not-true, not-false}
 use lib.ListN.{length}
@@ -12,9 +12,6 @@ use Rattle.descriptors.specs.Scratch.{Kept}
 use Rattle.descriptors.proofs.Steps.{below}
 use Rattle.descriptors.proofs.read_list.Statement.{statement}
 use Rattle.descriptors.proofs.read_list.Tie as tie
-
-window-fits-requires : tie.Need-window-fits-requires
-window-fits-requires c κs = search needs
 
 returns : tie.Need-returns
 unfolding reading Kept
@@ -46,4 +43,5 @@ returns-3 c =
     rw (in-window (c .before .before .before)) (rw e at (c .run .ensures))
 
 pub read-list-spec : {M : Type 1} → statement M
-read-list-spec = tie.close (tie.spec window-fits-requires returns returns-2 run-requires returns-3)
+read-list-spec =
+    tie.close (tie.spec (λ c κs. search needs) returns returns-2 run-requires returns-3)

@@ -1,8 +1,8 @@
 -- `accepted_rule` meets its contract. Assumes nothing.
-use mathlib.Core.Path.{_≡_, refl, sym, ap, _∙_}
+use mathlib.Core.Path.{_∙_}
 use borrow.Author.Needs.{needs}
 use Rattle.record.specs.Rules.{acceptedRule}
-use Rattle.entries.proofs.Words.{reserved-words, accepted-words}
+use Rattle.entries.proofs.Words.{accepted-words}
 use Rattle.entries.proofs.accepted_rule.Statement.{statement}
 use Rattle.entries.proofs.accepted_rule.Tie as tie
 

@@ -1,18 +1,13 @@
--- `guid_differs` meets its contract. The loop's invariant: the type GUIDs below j differ from that of image i. Assumes nothing.
-use lib.ListN.{length, getD}
+-- `guid_differs` meets its contract. The loop's invariant: the type GUIDs below j differ from that of image i. Assumes
+-- nothing.
 use mathlib.Core.List.{List}
-use lib.Dec.{eqb, leb, ltb}
-use mathlib.Core.Bool.{Bool, true, false, not, cond, _&&_, _||_}
-use Prim.Native.Nat.{ℕ, _+_, _*_, _-_, _≤_, _<_}
-use mathlib.Core.Path.{_≡_, refl, sym, ap, _∙_}
+use mathlib.Core.Bool.{Bool, not}
+use Prim.Native.Nat.{ℕ, _-_}
+use mathlib.Core.Path.{_≡_, sym, ap, _∙_}
 use native.Mathlib.Omega.{arith}
-use borrow.Author.Tests.{le-leb, lt-leb, le-ltb, lt-ltb, eq-eqb, ne-eqb}
 use borrow.Author.Needs.{needs}
-use Rattle.record.specs.Every.{below}
-use Rattle.record.proofs.Below.{below-none, below-more, below-stop, below-same}
-use Rattle.record.specs.Sized.{Sized, bankWords}
-use Rattle.record.proofs.Sizes.{bank-in, guid-in, header-in}
-use Rattle.fields.specs.Number.{le}
+use Rattle.record.proofs.Below.{Passed, passed-none, passed-more, passed-stop, passed-all}
+use Rattle.record.proofs.Sizes.{guid-in}
 use Rattle.record.specs.Layout.{entryAt}
 use Rattle.fields.specs.Guid.{guid, same}
 use Rattle.entries.proofs.guid_differs.Statement.{statement}
@@ -22,7 +17,7 @@ abbrev test : List ℕ → (banks i j : ℕ) → Bool
 test r banks i j = not (same (guid r (entryAt banks j)) (guid r (entryAt banks i)))
 
 abbrev Inv-loop : tie.InvT-loop
-Inv-loop r banks images i at j₀ j = (j ≤ i) × (below j (test r banks i) ≡ true)
+Inv-loop r banks images i at j₀ j = Passed (test r banks i) i j
 
 abbrev μ-loop : tie.MeasureT-loop
 μ-loop r banks images i at j₀ j = i - j
@@ -31,9 +26,7 @@ entry-at-requires : tie.Need-entry-at-requires Inv-loop μ-loop
 entry-at-requires c κs = search needs
 
 loop-holds : tie.Need-loop-holds Inv-loop μ-loop
-loop-holds c =
-    let a = c .before .before .args in
-    (omega arith, below-none (test (a .r .now) (a .banks) (a .i)))
+loop-holds c = passed-none
 
 entry-at-requires-2 : tie.Need-entry-at-requires-2 Inv-loop μ-loop
 entry-at-requires-2 c κs = search needs
@@ -55,9 +48,8 @@ tested c = rw (← c .before .entry-at2 .ensures .0, ← c .before .before .befo
 
 returns : tie.Need-returns Inv-loop μ-loop
 returns c =
-    let l = c .before .before .before .before in
-    let a = l .before .before .before .args in
-    sym (below-stop (test (a .r .now) (a .banks) (a .i)) (a .i) (l .loop .j) (c .before .before .before .loop-test .taken) (ap not (sym (tested (c .before)) ∙ c .if1 .taken)))
+    let t = c .before .before .before in
+    sym (passed-stop (t .before .loop .inv) (t .loop-test .taken) (ap not (sym (tested (c .before)) ∙ c .if1 .taken)))
 
 add-j : tie.Need-add-j Inv-loop μ-loop
 add-j c = omega arith
@@ -67,30 +59,14 @@ loop-less c = omega arith
 
 loop-again : tie.Need-loop-again Inv-loop μ-loop
 loop-again c =
-    let l = c .before .before .before .before in
-    let a = l .before .before .before .args in (
-      omega arith,
-      below-more (test (a .r .now) (a .banks) (a .i)) (l .loop .j) (l .loop .inv .1) (ap not (sym (tested (c .before)) ∙ c .if1 .left)),
-    )
+    let t = c .before .before .before in
+    passed-more (t .before .loop .inv) (t .loop-test .taken) (ap not (sym (tested (c .before)) ∙ c .if1 .left))
 
 returns-2 : tie.Need-returns-2 Inv-loop μ-loop
-returns-2 c =
-    let l = c .before in
-    let e : l .loop .j ≡ l .before .before .before .args .i = omega arith in
-    sym (rw e at (l .loop .inv .1))
+returns-2 c = sym (passed-all (c .before .loop .inv) (c .loop-test .left))
 
 pub guid-differs-spec : {M : Type 1} → statement M
 guid-differs-spec =
     tie.close
-    (tie.spec
-    Inv-loop
-    μ-loop
-    entry-at-requires
-    loop-holds
-    entry-at-requires-2
-    same-guid-requires
-    returns
-    add-j
-    loop-less
-    loop-again
-    returns-2)
+    (tie.spec Inv-loop μ-loop entry-at-requires loop-holds entry-at-requires-2 same-guid-requires returns add-j
+    loop-less loop-again returns-2)

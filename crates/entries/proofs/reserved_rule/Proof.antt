@@ -1,12 +1,11 @@
 -- `reserved_rule` meets its contract. Assumes nothing.
 use native.Mathlib.Omega.{arith}
-use borrow.Author.Tests.{le-leb, lt-leb, le-ltb, lt-ltb, eq-eqb, ne-eqb}
-use mathlib.Core.Path.{_≡_, refl, sym, ap, _∙_}
+use borrow.Author.Tests.{eq-eqb, ne-eqb}
+use mathlib.Core.Path.{_∙_}
 use borrow.Author.Needs.{needs}
 use Rattle.record.specs.Rules.{reservedRule}
-use Rattle.entries.proofs.Words.{reserved-words, accepted-words}
-use Rattle.record.specs.Sized.{Sized, bankWords}
-use Rattle.record.proofs.Sizes.{bank-in, guid-in, header-in}
+use Rattle.entries.proofs.Words.{reserved-words}
+use Rattle.record.proofs.Sizes.{header-in}
 use Rattle.entries.proofs.reserved_rule.Statement.{statement}
 use Rattle.entries.proofs.reserved_rule.Tie as tie
 
@@ -50,12 +49,5 @@ returns-4 c =
 pub reserved-rule-spec : {M : Type 1} → statement M
 reserved-rule-spec =
     tie.close
-    (tie.spec
-    read16-requires
-    returns
-    read32-requires
-    returns-2
-    shared-slice-read-if3
-    returns-3
-    all-words-requires
+    (tie.spec read16-requires returns read32-requires returns-2 shared-slice-read-if3 returns-3 all-words-requires
     returns-4)

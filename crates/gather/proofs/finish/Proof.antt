@@ -17,12 +17,6 @@ returns c =
     let a = c .before .before .args in
     total-zero (a .w .now) (a .base) (a .total) (take (a .count) (a .ds .now)) (c .if1 .taken)
 
-find-place-requires : tie.Need-find-place-requires
-find-place-requires c κs = search needs
-
-enum-known-place : tie.Need-enum-known-place
-enum-known-place c = search needs
-
 -- the place that was found
 is-at : (c : tie.After-place)
     → let a = c .before .before .before .before .before .before .args in
@@ -52,18 +46,12 @@ copy-blocks-requires c κs =
 enum-told : tie.Need-enum-told
 enum-told c = search needs
 
-same-length : tie.Need-same-length
-same-length c = search needs
-
 returns-2 : tie.Need-returns-2
 returns-2 c =
     let k = c .before .before .before .before .before in
     let a = k .before .before .before .before .before .before .args in
     rw (c .before .before .copy-blocks .ensures)
     (at-place (a .w .now) (a .base) (a .total) (take (a .count) (a .ds .now)) (k .place .given .0 .0) (k .before .before .before .before .if1 .left) (is-at k))
-
-same-length-2 : tie.Need-same-length-2
-same-length-2 c = search needs
 
 returns-3 : tie.Need-returns-3
 returns-3 c =
@@ -74,14 +62,5 @@ returns-3 c =
 pub finish-spec : {M : Type 1} → statement M
 finish-spec =
     tie.close
-    (tie.spec
-    returns
-    find-place-requires
-    enum-known-place
-    sub-copy-blocks
-    copy-blocks-requires
-    enum-told
-    same-length
-    returns-2
-    same-length-2
-    returns-3)
+    (tie.spec returns (λ c κs. search needs) (λ c. search needs) sub-copy-blocks copy-blocks-requires enum-told (λ c. search needs)
+    returns-2 (λ c. search needs) returns-3)

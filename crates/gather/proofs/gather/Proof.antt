@@ -1,25 +1,16 @@
 -- `gather` meets its contract. Assumes nothing.
-use mathlib.Core.Path.{_≡_, refl, sym, ap, subst, _∙_}
-use Prim.Native.Nat.{ℕ, _+_, _^_, _≤_, _<_}
+use mathlib.Core.Path.{_≡_, subst, _∙_}
+use Prim.Native.Nat.{ℕ}
 use native.Mathlib.Omega.{arith}
 use borrow.Author.Needs.{needs}
-use lib.ListN.{length, take, getD, replicate, length-take}
+use lib.ListN.{length, take, replicate, length-take}
 use lib.Seq.{getD-take}
 use Rattle.descriptors.specs.Reading.{whole, reading}
-use Rattle.descriptors.specs.Scratch.{Kept, Readable, AllReadable, lengths}
+use Rattle.descriptors.specs.Scratch.{Readable}
 use Rattle.descriptors.proofs.Whole.{found, was-refused, was-whole}
 use Rattle.gather.proofs.Ends.{list-refused, list-whole}
 use Rattle.gather.proofs.gather.Statement.{statement}
 use Rattle.gather.proofs.gather.Tie as tie
-
-read-list-requires : tie.Need-read-list-requires
-read-list-requires c κs = search needs
-
-enum-known-read : tie.Need-enum-known-read
-enum-known-read c = search needs
-
-enum-known-read-2 : tie.Need-enum-known-read-2
-enum-known-read-2 c = search needs
 
 -- a list that was read whole, and what the array then holds
 was-read : (c : tie.After-read2)
@@ -49,9 +40,6 @@ finish-requires c κs =
       f .below,
     )
 
-same-length : tie.Need-same-length
-same-length c = search needs
-
 returns : tie.Need-returns
 returns c =
     let r = c .before .before .before in
@@ -59,9 +47,6 @@ returns c =
     list-refused (a .w .now) (a .base) (a .first) (c .before .read .given .0 .0)
     (was-refused (reading (a .w .now) (a .base) (a .first)) 0 (replicate 256 0) (r .read-list .last .1 .1 .1 .0) (r .read-list .result)
     (c .before .read .given .0 .0) (r .read-list .ensures) (c .before .read .given .1))
-
-same-length-2 : tie.Need-same-length-2
-same-length-2 c = search needs
 
 returns-2 : tie.Need-returns-2
 returns-2 c =
@@ -77,12 +62,5 @@ returns-2 c =
 pub gather-spec : {M : Type 1} → statement M
 gather-spec =
     tie.close
-    (tie.spec
-    read-list-requires
-    enum-known-read
-    enum-known-read-2
-    finish-requires
-    same-length
-    returns
-    same-length-2
+    (tie.spec (λ c κs. search needs) (λ c. search needs) (λ c. search needs) finish-requires (λ c. search needs) returns (λ c. search needs)
     returns-2)

@@ -1,20 +1,20 @@
 -- `image_count_rule` meets its contract. Assumes nothing.
-use borrow.Author.Tests.{le-leb, lt-leb, le-ltb, lt-ltb, eq-eqb, ne-eqb}
+use borrow.Author.Tests.{le-leb, lt-leb}
 use borrow.Author.Needs.{needs}
 use Rattle.record.specs.Rules.{imageCountRule}
 use Rattle.header_rules.proofs.image_count_rule.Statement.{statement}
 use Rattle.header_rules.proofs.image_count_rule.Tie as tie
 
-read16-requires : tie.Need-read16-requires
-read16-requires c κs = search needs
+image-count-requires : tie.Need-image-count-requires
+image-count-requires c κs = search needs
 
 returns : tie.Need-returns
 unfolding imageCountRule
-returns c = rw (← c .before .read16 .ensures, lt-leb _ _ (c .if1 .taken))
+returns c = rw (← c .before .image-count .ensures, lt-leb _ _ (c .if1 .taken))
 
 returns-2 : tie.Need-returns-2
 unfolding imageCountRule
-returns-2 c = rw (← c .before .read16 .ensures, le-leb _ _ (c .if1 .left))
+returns-2 c = rw (← c .before .image-count .ensures, le-leb _ _ (c .if1 .left))
 
 pub image-count-rule-spec : {M : Type 1} → statement M
-image-count-rule-spec = tie.close (tie.spec read16-requires returns returns-2)
+image-count-rule-spec = tie.close (tie.spec image-count-requires returns returns-2)

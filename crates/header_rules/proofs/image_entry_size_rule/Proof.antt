@@ -5,26 +5,23 @@ use Rattle.record.specs.Rules.{imageEntrySizeRule}
 use Rattle.header_rules.proofs.image_entry_size_rule.Statement.{statement}
 use Rattle.header_rules.proofs.image_entry_size_rule.Tie as tie
 
-shared-slice-read-banks : tie.Need-shared-slice-read-banks
-shared-slice-read-banks c = search needs
-
-cast-banks : tie.Need-cast-banks
-cast-banks c = omega (arith, c .shared-slice-known2 .given 32)
-
 read16-requires : tie.Need-read16-requires
 read16-requires c κs = search needs
 
-mul-result : tie.Need-mul-result
-mul-result c = omega (arith, c .before .shared-slice-known2 .given 32)
+cast-result : tie.Need-cast-result
+cast-result c = search needs
 
-add-result : tie.Need-add-result
-add-result c = omega (arith, c .before .shared-slice-known2 .given 32)
+bank-count-requires : tie.Need-bank-count-requires
+bank-count-requires c κs = search needs
+
+entry-size-requires : tie.Need-entry-size-requires
+entry-size-requires c κs = omega (arith, c .bank-count .ensures, c .before .before .shared-slice-known .given 32)
 
 returns : tie.Need-returns
 unfolding imageEntrySizeRule
-returns c = rw (c .read16 .ensures)
+returns c = let b = c .before in rw (c .entry-size .ensures, b .bank-count .ensures, b .before .read16 .ensures)
 
 pub image-entry-size-rule-spec : {M : Type 1} → statement M
 image-entry-size-rule-spec =
     tie.close
-    (tie.spec shared-slice-read-banks cast-banks read16-requires mul-result add-result returns)
+    (tie.spec read16-requires cast-result bank-count-requires entry-size-requires returns)

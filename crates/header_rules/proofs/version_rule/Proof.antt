@@ -4,12 +4,12 @@ use Rattle.record.specs.Rules.{versionRule}
 use Rattle.header_rules.proofs.version_rule.Statement.{statement}
 use Rattle.header_rules.proofs.version_rule.Tie as tie
 
-read32-requires : tie.Need-read32-requires
-read32-requires c κs = search needs
+version-requires : tie.Need-version-requires
+version-requires c κs = search needs
 
 returns : tie.Need-returns
 unfolding versionRule
-returns c = rw (c .read32 .ensures)
+returns c = rw (c .version .ensures)
 
 pub version-rule-spec : {M : Type 1} → statement M
-version-rule-spec = tie.close (tie.spec read32-requires returns)
+version-rule-spec = tie.close (tie.spec version-requires returns)

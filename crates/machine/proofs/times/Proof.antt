@@ -20,31 +20,13 @@ mul-crossed-2 c =
     let h = product (c .args .b / 4294967296) (c .args .a % 4294967296) (omega arith) (omega arith) in
     omega arith
 
-add-crossed : tie.Need-add-crossed
-add-crossed c = search needs
-
-mul-wrapping-add-u64 : tie.Need-mul-wrapping-add-u64
-mul-wrapping-add-u64 c = search needs
-
 mul-wrapping-add-u64-2 : tie.Need-mul-wrapping-add-u64-2
 mul-wrapping-add-u64-2 c =
     let h = product (c .args .a % 4294967296) (c .args .b % 4294967296) (omega arith) (omega arith) in
     omega arith
 
-wrapping-add-u64-requires : tie.Need-wrapping-add-u64-requires
-wrapping-add-u64-requires c κs = search needs
-
-returns : tie.Need-returns
-returns c = search needs
-
 pub times-spec : {M : Type 1} → statement M
 times-spec =
     tie.close
-    (tie.spec
-    mul-crossed
-    mul-crossed-2
-    add-crossed
-    mul-wrapping-add-u64
-    mul-wrapping-add-u64-2
-    wrapping-add-u64-requires
-    returns)
+    (tie.spec mul-crossed mul-crossed-2 (search needs) (search needs) mul-wrapping-add-u64-2 (search needs)
+    (search needs))

@@ -20,16 +20,10 @@ abbrev μ-loop : tie.MeasureT-loop
 loop-holds : tie.Need-loop-holds Inv-loop μ-loop
 loop-holds c = (refl, omega arith, λ q lt. absurd (omega arith))
 
-sub-loop : tie.Need-sub-loop Inv-loop μ-loop
-sub-loop c = omega arith
-
 next-start-requires : tie.Need-next-start-requires Inv-loop μ-loop
 next-start-requires c κs =
     let p = c .before .before .before .pre in
     (p .0, p .1, p .2, omega arith)
-
-add-address : tie.Need-add-address Inv-loop μ-loop
-add-address c = omega arith
 
 returns : tie.Need-returns Inv-loop μ-loop
 unfolding placeFor
@@ -84,14 +78,4 @@ returns-2 c =
 pub find-place-spec : {M : Type 1} → statement M
 find-place-spec =
     tie.close
-    (tie.spec
-    Inv-loop
-    μ-loop
-    loop-holds
-    sub-loop
-    next-start-requires
-    add-address
-    returns
-    loop-less
-    loop-again
-    returns-2)
+    (tie.spec Inv-loop μ-loop loop-holds (λ c. omega arith) next-start-requires (λ c. omega arith) returns loop-less loop-again returns-2)

@@ -1,4 +1,5 @@
--- `next_start` meets its contract. The loop's invariant: the start is clear of every descriptor passed and of its block. Assumes nothing.
+-- `next_start` meets its contract. The loop's invariant: the start is clear of every descriptor passed and of its
+-- block. Assumes nothing.
 use mathlib.Core.Path.{_≡_}
 use mathlib.Core.Bool.{true}
 use Prim.Native.Nat.{ℕ, _+_, _-_, _≤_, _<_}
@@ -20,12 +21,6 @@ abbrev μ-loop : tie.MeasureT-loop
 loop-holds : tie.Need-loop-holds Inv-loop μ-loop
 loop-holds c = (omega arith, λ k lt. absurd (omega arith))
 
-mul-shared-end : tie.Need-mul-shared-end Inv-loop μ-loop
-mul-shared-end c = omega arith
-
-element-copy-out-shared-end : tie.Need-element-copy-out-shared-end Inv-loop μ-loop
-element-copy-out-shared-end c = omega arith
-
 shared-end-requires : tie.Need-shared-end-requires Inv-loop μ-loop
 shared-end-requires c κs =
     let s = c .before .before .before .before in
@@ -40,12 +35,6 @@ returns c =
     passed-over (λ (q : ℕ). clearOfAll w (a .base) (a .t) (a .base + q) (take (a .count) (a .ds .now))) (length w) (a .p) (c .before .shared-end .result) (e .0) (e .1)
     (λ q le lt.
     one-of-first w (a .base) (a .t) (a .base + q) (a .ds .now) (a .count) (omega arith) (l .loop .i) (c .before .before .before .loop-test .taken) (e .2 q le lt))
-
-add-i : tie.Need-add-i Inv-loop μ-loop
-add-i c = omega arith
-
-loop-less : tie.Need-loop-less Inv-loop μ-loop
-loop-less c = omega arith
 
 loop-again : tie.Need-loop-again Inv-loop μ-loop
 loop-again c =
@@ -67,15 +56,5 @@ returns-2 c =
 pub next-start-spec : {M : Type 1} → statement M
 next-start-spec =
     tie.close
-    (tie.spec
-    Inv-loop
-    μ-loop
-    loop-holds
-    mul-shared-end
-    element-copy-out-shared-end
-    shared-end-requires
-    returns
-    add-i
-    loop-less
-    loop-again
-    returns-2)
+    (tie.spec Inv-loop μ-loop loop-holds (λ c. omega arith) (λ c. omega arith) shared-end-requires returns (λ c. omega arith)
+    (λ c. omega arith) loop-again returns-2)

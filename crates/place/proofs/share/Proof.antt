@@ -6,15 +6,9 @@ use Rattle.place.specs.Place.{apart}
 use Rattle.place.proofs.share.Statement.{statement}
 use Rattle.place.proofs.share.Tie as tie
 
-add-if1 : tie.Need-add-if1
-add-if1 c = search needs
-
 returns : tie.Need-returns
 unfolding apart
 returns c = simp (le-leb _ _ (c .if1 .taken), or-true)
-
-add-if2 : tie.Need-add-if2
-add-if2 c = search needs
 
 returns-2 : tie.Need-returns-2
 unfolding apart
@@ -25,4 +19,5 @@ unfolding apart
 returns-3 c = simp (lt-leb _ _ (c .before .if1 .left), lt-leb _ _ (c .if2 .left))
 
 pub share-spec : {M : Type 1} → statement M
-share-spec = tie.close (tie.spec add-if1 returns add-if2 returns-2 returns-3)
+share-spec =
+    tie.close (tie.spec (λ c. search needs) returns (λ c. search needs) returns-2 returns-3)

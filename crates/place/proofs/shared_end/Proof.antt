@@ -1,7 +1,7 @@
 -- `shared_end` meets its contract: what meets a range meets it up to the range's end. Assumes nothing.
-use mathlib.Core.Path.{_≡_, sym, ap, _∙_}
-use mathlib.Core.Bool.{true, false}
-use Prim.Native.Nat.{ℕ, _+_, _-_, _≤_, _<_}
+use mathlib.Core.Path.{_≡_, sym, _∙_}
+use mathlib.Core.Bool.{true}
+use Prim.Native.Nat.{ℕ, _+_, _-_, _≤_}
 use native.Mathlib.Omega.{arith}
 use borrow.Author.Needs.{needs}
 use borrow.Author.Tests.{not-true, not-false}
@@ -13,15 +13,6 @@ use Rattle.place.proofs.Ranges.{apart-at, meets, meets-descriptor, meet
 use Rattle.place.proofs.Search.{passed-over, passes}
 use Rattle.place.proofs.shared_end.Statement.{statement}
 use Rattle.place.proofs.shared_end.Tie as tie
-
-sub-at : tie.Need-sub-at
-sub-at c = search needs
-
-share-requires : tie.Need-share-requires
-share-requires c κs = search needs
-
-add-result : tie.Need-add-result
-add-result c = search needs
 
 returns : tie.Need-returns
 returns c =
@@ -41,9 +32,6 @@ clear-descriptor c =
     apart-at (a .base) (a .p) (a .t) (a .d) 16 (c .before .before .before .pre .0 .low)
     ∙ not-false _ (sym (c .before .share .ensures) ∙ c .if1 .left)
 
-read64-requires : tie.Need-read64-requires
-read64-requires c κs = search needs
-
 returns-2 : tie.Need-returns-2
 returns-2 c =
     let e = c .before .before in
@@ -52,12 +40,6 @@ returns-2 c =
     passes (λ (q : ℕ). clearOf w (a .base) (a .t) (a .base + q) (a .d)) (length w) (a .p)
     (clear-no-block w (a .base) (a .t) (a .base + a .p) (a .d) (clear-descriptor e)
     (length-at w (a .base) (a .d) ∙ sym (c .before .read64 .ensures) ∙ c .if2 .taken))
-
-add-read64 : tie.Need-add-read64
-add-read64 c = search needs
-
-read64-requires-2 : tie.Need-read64-requires-2
-read64-requires-2 c κs = search needs
 
 -- past the second: the block's two numbers, and that it lies in the window
 numbers : (c : tie.After-read642)
@@ -119,17 +101,5 @@ returns-4 c =
 pub shared-end-spec : {M : Type 1} → statement M
 shared-end-spec =
     tie.close
-    (tie.spec
-    sub-at
-    share-requires
-    add-result
-    returns
-    read64-requires
-    returns-2
-    add-read64
-    read64-requires-2
-    sub-s
-    share-requires-2
-    add-result-2
-    returns-3
-    returns-4)
+    (tie.spec (λ c. search needs) (λ c κs. search needs) (λ c. search needs) returns (λ c κs. search needs) returns-2 (λ c. search needs)
+    (λ c κs. search needs) sub-s share-requires-2 add-result-2 returns-3 returns-4)

@@ -1,25 +1,22 @@
 -- `repair` meets its contract. Assumes nothing.
-use borrow.Author.Tests.{le-leb, lt-leb, le-ltb, lt-ltb, eq-eqb, ne-eqb}
-use mathlib.Core.Path.{_≡_, refl, sym, ap, _∙_}
-use native.Mathlib.Omega.{arith}
+use mathlib.Core.Path.{sym, _∙_}
+use borrow.Author.Tests.{eq-eqb, ne-eqb, le-ltb, lt-ltb}
 use borrow.Author.Needs.{needs}
-use Rattle.repair.specs.Repair.{repairedAt, repaired}
+use Rattle.stores.specs.Stores.{storeNumbers}
+use Rattle.verdicts.specs.Decide.{decide}
+use Rattle.admission.specs.Rows.{repairTests}
+use Rattle.admission.proofs.Area.{none-sound, one-sound, some-copy}
+use Rattle.repair.specs.Repair.{repairedBy, repaired}
 use Rattle.repair.proofs.repair.Statement.{statement}
 use Rattle.repair.proofs.repair.Tie as tie
 
-refused-requires : tie.Need-refused-requires
-refused-requires c κs = search needs
-
 returns : tie.Need-returns
-unfolding repaired
-returns c = rw (ne-eqb _ _ (c .before .if1 .taken), c .refused .ensures)
-
-refused-requires-2 : tie.Need-refused-requires-2
-refused-requires-2 c κs = search needs
+unfolding repaired repairedBy repairTests decide
+returns c = rw (ne-eqb _ _ (c .if1 .taken))
 
 returns-2 : tie.Need-returns-2
-unfolding repaired
-returns-2 c = rw (eq-eqb _ _ (c .before .before .if1 .left), lt-leb _ _ (c .before .if2 .taken), c .refused2 .ensures)
+unfolding repaired repairedBy repairTests decide
+returns-2 c = rw (eq-eqb _ _ (c .before .if1 .left), lt-ltb _ storeNumbers (c .if2 .taken))
 
 read-source-requires : tie.Need-read-source-requires
 read-source-requires c κs = search needs
@@ -27,73 +24,52 @@ read-source-requires c κs = search needs
 enum-told : tie.Need-enum-told
 enum-told c = search needs
 
-repair-second-requires : tie.Need-repair-second-requires
-repair-second-requires c κs =
-    let t = c .before in
-    let m = t .before .before in
-    (m .before .before .if1 .left, m .before .if2 .left, sym (m .read-source .ensures) ∙ t .enum-told .given .1)
+returns-3 : tie.Need-returns-3
+unfolding repaired repairedBy repairTests decide
+returns-3 c =
+    let m = c .before .before in
+    let w = m .before in
+    let a = w .before .before .before .before .args .area .now in
+    rw (
+      eq-eqb _ _ (w .before .if1 .left),
+      le-ltb _ storeNumbers (w .if2 .left),
+      none-sound a (sym (m .read-source .ensures) ∙ c .enum-told .given .1),
+    )
 
-enum-told-2 : tie.Need-enum-told-2
-enum-told-2 c = search needs
-
-repair-first-requires : tie.Need-repair-first-requires
-repair-first-requires c κs =
-    let t = c .before in
-    let m = t .before .before in
-    (m .before .before .if1 .left, m .before .if2 .left, sym (m .read-source .ensures) ∙ t .enum-told2 .given .1)
-
-enum-told-3 : tie.Need-enum-told-3
-enum-told-3 c = search needs
-
-refused-requires-3 : tie.Need-refused-requires-3
-refused-requires-3 c κs = search needs
+list-repair-requires : tie.Need-list-repair-requires
+list-repair-requires c κs =
+    let k = c .before in
+    let m = k .before in
+    (m .before .before .if1 .left, m .read-source .ensures, some-copy (m .read-source .result) (k .match .keys2), m .before .if2 .left)
 
 same-length : tie.Need-same-length
 same-length c = search needs
 
-returns-3 : tie.Need-returns-3
-unfolding repaired
-returns-3 c =
-    let q = c .before .before in
-    let t = q .before .before in
-    let m = t .before .before in
-    rw (eq-eqb _ _ (m .before .before .if1 .left), le-leb _ _ (m .before .if2 .left), sym (m .read-source .ensures) ∙ t .enum-told .given .1) (q .repair-second .ensures)
-
-same-length-2 : tie.Need-same-length-2
-same-length-2 c = search needs
-
 returns-4 : tie.Need-returns-4
-unfolding repaired
+unfolding repaired repairedBy repairTests decide
 returns-4 c =
-    let q = c .before .before in
-    let t = q .before .before in
-    let m = t .before .before in
-    rw (eq-eqb _ _ (m .before .before .if1 .left), le-leb _ _ (m .before .if2 .left), sym (m .read-source .ensures) ∙ t .enum-told2 .given .1) (q .repair-first .ensures)
-
-returns-5 : tie.Need-returns-5
-unfolding repaired repairedAt
-returns-5 c =
-    let t = c .before in
-    let m = t .before .before in
-    rw (eq-eqb _ _ (m .before .before .if1 .left), le-leb _ _ (m .before .if2 .left), sym (m .read-source .ensures) ∙ t .enum-told3 .given .1, c .refused3 .ensures)
+    let l = c .before .before in
+    let k = l .before .before in
+    let m = k .before in
+    let w = m .before in
+    let a = w .before .before .before .before .args .area .now in
+    rw (
+      eq-eqb _ _ (w .before .if1 .left),
+      le-ltb _ storeNumbers (w .if2 .left),
+      one-sound a (rw (← m .read-source .ensures) (some-copy (m .read-source .result) (k .match .keys2))),
+      l .list-repair .ensures .count,
+      l .list-repair .ensures .lists,
+    )
 
 pub repair-spec : {M : Type 1} → statement M
 repair-spec =
     tie.close
     (tie.spec
-    refused-requires
     returns
-    refused-requires-2
     returns-2
     read-source-requires
     enum-told
-    repair-second-requires
-    enum-told-2
-    repair-first-requires
-    enum-told-3
-    refused-requires-3
-    same-length
     returns-3
-    same-length-2
-    returns-4
-    returns-5)
+    list-repair-requires
+    same-length
+    returns-4)

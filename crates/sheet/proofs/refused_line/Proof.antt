@@ -4,18 +4,9 @@ use Rattle.sheet.specs.Sheet.{refusedLine}
 use Rattle.sheet.proofs.refused_line.Statement.{statement}
 use Rattle.sheet.proofs.refused_line.Tie as tie
 
-slice-aggregate-line-of-one : tie.Need-slice-aggregate-line-of-one
-slice-aggregate-line-of-one c = search needs
-
-number-requires : tie.Need-number-requires
-number-requires c κs = search needs
-
 line-of-one-requires : tie.Need-line-of-one-requires
 unfolding refusedLine
 line-of-one-requires c κs = rw (c .number .ensures) (c .before .before .before .before .pre)
-
-same-length : tie.Need-same-length
-same-length c = search needs
 
 returns : tie.Need-returns
 unfolding refusedLine
@@ -26,4 +17,4 @@ returns c =
 pub refused-line-spec : {M : Type 1} → statement M
 refused-line-spec =
     tie.close
-    (tie.spec slice-aggregate-line-of-one number-requires line-of-one-requires same-length returns)
+    (tie.spec (λ c. search needs) (λ c κs. search needs) line-of-one-requires (λ c. search needs) returns)

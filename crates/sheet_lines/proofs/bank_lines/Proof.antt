@@ -1,47 +1,39 @@
 -- `bank_lines` meets its contract. The loop's invariant: the lines of the banks below b are written. Assumes nothing.
-use Prim.Native.Nat.{_-_, _≤_, _<_}
-use mathlib.Core.Path.{_≡_, refl}
+use Prim.Native.Nat.{_-_}
 use native.Mathlib.Omega.{arith}
-use lib.ListN.{length}
 use borrow.Author.Needs.{needs}
-use Rattle.sheet_lines.proofs.Known.{header, few-banks}
+use Rattle.sheet_lines.proofs.Known.{few-banks}
 use Rattle.record.specs.Layout.{bankCount}
-use Rattle.text.specs.Text.{ascending}
+use Rattle.record.proofs.Sound.{sound-long}
 use Rattle.sheet_lines.specs.Lines.{bankLine}
-use Rattle.text.specs.Wrote.{Wrote}
-use Rattle.text.proofs.Lines.{lines-none, lines-room, lines-more}
+use Rattle.sheet_lines.proofs.Rows.{Rows, rows-none, rows-room, rows-more, rows-all}
 use Rattle.sheet_lines.proofs.bank_lines.Statement.{statement}
 use Rattle.sheet_lines.proofs.bank_lines.Tie as tie
 
 abbrev Inv-loop : tie.InvT-loop
-Inv-loop out₀ k r banks n₀ b₀ out n b = (banks ≡ bankCount r) × (b ≤ banks) × (length out ≡ length out₀) × Wrote k n (ascending b (bankLine r)) out₀ out
+Inv-loop out₀ k r banks n₀ b₀ out n b = Rows (bankLine r) (bankCount r) k out₀ banks n b out
 
 abbrev μ-loop : tie.MeasureT-loop
 μ-loop out₀ k r banks n₀ b₀ out n b = banks - b
 
-shared-slice-read-banks : tie.Need-shared-slice-read-banks Inv-loop μ-loop
-shared-slice-read-banks c = let s = c .before .before .before in omega (arith, header (s .args .r .now) (s .pre .0))
-
-cast-banks : tie.Need-cast-banks Inv-loop μ-loop
-cast-banks c = omega (arith, c .shared-slice-known2 .given 32)
+bank-count-requires : tie.Need-bank-count-requires Inv-loop μ-loop
+bank-count-requires c κs = let s = c .before .before in sound-long (s .args .r .now) (s .pre .0)
 
 loop-holds : tie.Need-loop-holds Inv-loop μ-loop
-loop-holds c =
-    let s = c .before .before .before in
-    let a = s .args in
-    (refl, omega arith, refl, lines-none (bankLine (a .r .now)) (a .k) (bankCount (a .r .now)) (a .out .now) (s .pre .1))
+loop-holds c = rows-none (c .bank-count .ensures) (c .before .before .before .pre .1)
 
 bank-line-requires : tie.Need-bank-line-requires Inv-loop μ-loop
 bank-line-requires c κs =
     let l = c .before .before in
     let s = l .before .before .before .before in
-    let a = s .args in
-    let i = l .loop .inv in
-    let t : l .loop .b < bankCount (a .r .now) = omega (arith, c .before .loop-test .taken) in
-    (s .pre .0, t, lines-room (bankLine (a .r .now)) (a .k) (bankCount (a .r .now)) (a .out .now) (s .pre .1) (l .loop .n) (l .loop .b) (l .loop .out) t (i .3))
+    let t = c .before .loop-test .taken in
+    (s .pre .0, omega (arith, l .loop .inv .limit, t), rows-room (l .loop .inv) (s .pre .1) t)
 
 add-b : tie.Need-add-b Inv-loop μ-loop
-add-b c = let s = c .before .before .before .before .before .before .before .before .before in omega (arith, few-banks (s .args .r .now) (s .pre .0))
+add-b c =
+    let l = c .before .before .before .before .before in
+    let s = l .before .before .before .before in
+    omega (arith, few-banks (s .args .r .now) (s .pre .0), l .loop .inv .limit)
 
 loop-less : tie.Need-loop-less Inv-loop μ-loop
 loop-less c = search needs
@@ -50,38 +42,16 @@ loop-again : tie.Need-loop-again Inv-loop μ-loop
 loop-again c =
     let q = c .before .before in
     let l = q .before .before .before in
-    let s = l .before .before .before .before in
-    let a = s .args in
-    let i = l .loop .inv in
-    let t : l .loop .b < bankCount (a .r .now) = omega (arith, q .before .before .loop-test .taken) in
-    let w =
-    lines-more (bankLine (a .r .now)) (a .k) (bankCount (a .r .now)) (a .out .now) (s .pre .1) (l .loop .n) (q .bank-line .result) (l .loop .b) (l .loop .out)
-    (q .bank-line .last .0) t (i .3) (q .bank-line .ensures) in
-    (i .0, omega arith, w .kept, w)
+    rows-more (l .loop .inv) (l .before .before .before .before .pre .1) (q .before .before .loop-test .taken) (q .bank-line .ensures)
 
 same-length : tie.Need-same-length Inv-loop μ-loop
-same-length c = c .before .loop .inv .2
+same-length c = c .before .loop .inv .wrote .kept
 
 returns : tie.Need-returns Inv-loop μ-loop
-returns c =
-    let l = c .before in
-    let a = l .before .before .before .before .args in
-    let i = l .loop .inv in
-    let e : l .loop .b ≡ bankCount (a .r .now) = omega arith in
-    rw e at (i .3)
+returns c = rows-all (c .before .loop .inv) (c .loop-test .left)
 
 pub bank-lines-spec : {M : Type 1} → statement M
 bank-lines-spec =
     tie.close
-    (tie.spec
-    Inv-loop
-    μ-loop
-    shared-slice-read-banks
-    cast-banks
-    loop-holds
-    bank-line-requires
-    add-b
-    loop-less
-    loop-again
-    same-length
+    (tie.spec Inv-loop μ-loop bank-count-requires loop-holds bank-line-requires add-b loop-less loop-again same-length
     returns)

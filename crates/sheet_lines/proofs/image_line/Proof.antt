@@ -1,20 +1,19 @@
 -- `image_line` meets its contract. Assumes nothing.
 use native.Mathlib.Omega.{arith}
 use borrow.Author.Needs.{needs}
-use Rattle.record.proofs.Sound.{sound-sized}
-use Rattle.sheet_lines.proofs.Known.{header, few-banks, few-images}
+use Rattle.record.proofs.Sound.{sound-sized, sound-long}
+use Rattle.sheet_lines.proofs.Known.{few-banks, few-images}
 use Rattle.sheet_lines.specs.Lines.{imageLine}
 use Rattle.sheet_lines.proofs.image_line.Statement.{statement}
 use Rattle.sheet_lines.proofs.image_line.Tie as tie
 
-shared-slice-read-accepted-word : tie.Need-shared-slice-read-accepted-word
-shared-slice-read-accepted-word c = let s = c .before .before .before in omega (arith, header (s .args .r .now) (s .pre .0))
-
-cast-accepted-word : tie.Need-cast-accepted-word
-cast-accepted-word c = omega (arith, c .shared-slice-known2 .given 32)
+bank-count-requires : tie.Need-bank-count-requires
+bank-count-requires c κs = let s = c .before .before in sound-long (s .args .r .now) (s .pre .0)
 
 accepted-word-requires : tie.Need-accepted-word-requires
-accepted-word-requires c κs = let s = c .before .before .before in (sound-sized (s .args .r .now) (s .pre .0), s .pre .1, omega (arith, s .pre .2))
+accepted-word-requires c κs =
+    let s = c .before .before .before in
+    (rw (c .bank-count .ensures) (sound-sized (s .args .r .now) (s .pre .0)), s .pre .1, omega (arith, c .bank-count .ensures, s .pre .2))
 
 slice-aggregate-line-of-three : tie.Need-slice-aggregate-line-of-three
 slice-aggregate-line-of-three c = search needs
@@ -43,13 +42,5 @@ returns c =
 pub image-line-spec : {M : Type 1} → statement M
 image-line-spec =
     tie.close
-    (tie.spec
-    shared-slice-read-accepted-word
-    cast-accepted-word
-    accepted-word-requires
-    slice-aggregate-line-of-three
-    cast-line-of-three
-    cast-line-of-three-2
-    line-of-three-requires
-    same-length
-    returns)
+    (tie.spec bank-count-requires accepted-word-requires slice-aggregate-line-of-three cast-line-of-three
+    cast-line-of-three-2 line-of-three-requires same-length returns)

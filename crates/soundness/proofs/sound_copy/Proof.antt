@@ -1,9 +1,6 @@
 -- `sound_copy` meets its contract. Assumes nothing.
-use mathlib.Core.Path.{_≡_, refl, sym, ap, _∙_}
-use native.Mathlib.Omega.{arith}
 use borrow.Author.Needs.{needs}
-use Rattle.record.specs.Rules.{sound, soundCopy}
-use Rattle.record.specs.Layout.{recordOf}
+use Rattle.record.specs.Rules.{soundCopy}
 use Rattle.record.proofs.Copies.{record-long}
 use Rattle.soundness.proofs.sound_copy.Statement.{statement}
 use Rattle.soundness.proofs.sound_copy.Tie as tie

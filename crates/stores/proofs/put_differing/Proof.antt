@@ -31,4 +31,5 @@ returns-2 c =
 
 pub put-differing-spec : {M : Type 1} → statement M
 put-differing-spec =
-    tie.close (tie.spec returns cast-put-pair add-put-pair put-pair-requires same-length returns-2)
+    tie.close
+    (tie.spec returns cast-put-pair add-put-pair put-pair-requires same-length returns-2)

@@ -40,14 +40,5 @@ returns c = let a = c .args in added-one (a .k) (a .out .now) _ (a .o) (a .w) (c
 pub put-pair-spec : {M : Type 1} → statement M
 put-pair-spec =
     tie.close
-    (tie.spec
-    mul-out
-    mul-out-2
-    slice-write-out
-    mul-out-3
-    add-out
-    mul-out-4
-    slice-write-out-2
-    add-result
-    same-length
+    (tie.spec mul-out mul-out-2 slice-write-out mul-out-3 add-out mul-out-4 slice-write-out-2 add-result same-length
     returns)

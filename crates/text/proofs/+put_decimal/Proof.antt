@@ -1,4 +1,5 @@
--- `put_decimal` meets its contract. It calls itself for a tenth of the number: the measure is the number. Assumes nothing.
+-- `put_decimal` meets its contract. It calls itself for a tenth of the number: the measure is the number. Assumes
+-- nothing.
 use Prim.Native.Nat.{ℕ, _/_, _%_, _<_}
 use mathlib.Core.List.{[], _∷_}
 use mathlib.Core.Path.{ap}
@@ -9,7 +10,7 @@ use borrow.Fn.Kinds.{In}
 use borrow.Fn.PlainCycle.{Measures, is, falls, and}
 use Rattle.text.specs.Text.{digitOf, decimal}
 use Rattle.text.proofs.Digits.{decimal-low, decimal-more}
-use Rattle.text.proofs.Writing.{wrote-then, room-first, room-then}
+use Rattle.text.proofs.Writing.{room-first, room-left, and-then}
 use Rattle.text.proofs.put_decimal.Reads as put-decimal
 use Rattle.text.proofs.put_decimal.Kinds as put-decimal-kinds
 use Rattle.text.proofs.+put_decimal.Lts-put_decimal as put-decimal-lts
@@ -31,17 +32,11 @@ put-decimal-below t = and 1 put-decimal-kinds.ps (falls 1 put-decimal-kinds.ps _
 abbrev with : ℕ → put-decimal-lts.Claims
 with t = (digit-reads.Asked, digit-reads.Learnt, put-byte-reads.Asked, put-byte-reads.Learnt, put-decimal-below t, put-decimal.Post)
 
-digit-requires : (t : ℕ) → put-decimal-lts.Need-digit-requires (with t) (put-decimal-at t) put-decimal.Post
-digit-requires t c κs = search needs
-
 put-byte-requires : (t : ℕ) → put-decimal-lts.Need-put-byte-requires (with t) (put-decimal-at t) put-decimal.Post
 put-byte-requires t c κs =
     let g = c .before .before in
     let s = g .before .before in
     omega (arith, ap length (decimal-low (s .args .x) (g .if1 .taken)))
-
-same-length : (t : ℕ) → put-decimal-lts.Need-same-length (with t) (put-decimal-at t) put-decimal.Post
-same-length t c = search needs
 
 returns : (t : ℕ) → put-decimal-lts.Need-returns (with t) (put-decimal-at t) put-decimal.Post
 returns t c =
@@ -58,20 +53,13 @@ put-decimal-requires t c κs =
     let a = s .args in
     (omega (arith, s .pre .0), room-first (a .k) (decimal (a .x / 10)) (digitOf (a .x % 10) ∷ []) (a .out .now) (rw (decimal-more (a .x) (g .if1 .left)) at (s .pre .1)))
 
-digit-requires-2 : (t : ℕ) → put-decimal-lts.Need-digit-requires-2 (with t) (put-decimal-at t) put-decimal.Post
-digit-requires-2 t c κs = search needs
-
 put-byte-requires-2 : (t : ℕ) → put-decimal-lts.Need-put-byte-requires-2 (with t) (put-decimal-at t) put-decimal.Post
 put-byte-requires-2 t c κs =
     let q = c .before .before .before .before in
     let g = q .before .before in
     let s = g .before .before in
     let a = s .args in
-    room-then (a .k) (q .put-decimal .result) (decimal (a .x / 10)) (c .digit2 .result ∷ []) (a .out .now) (q .put-decimal .last .0)
-    (rw (c .digit2 .ensures, ← decimal-more (a .x) (g .if1 .left)) (s .pre .1)) (q .put-decimal .ensures)
-
-same-length-2 : (t : ℕ) → put-decimal-lts.Need-same-length-2 (with t) (put-decimal-at t) put-decimal.Post
-same-length-2 t c = search needs
+    room-left (c .digit2 .result ∷ []) (rw (c .digit2 .ensures, ← decimal-more (a .x) (g .if1 .left)) (s .pre .1)) (q .put-decimal .ensures)
 
 returns-2 : (t : ℕ) → put-decimal-lts.Need-returns-2 (with t) (put-decimal-at t) put-decimal.Post
 returns-2 t c =
@@ -82,19 +70,10 @@ returns-2 t c =
     let s = g .before .before in
     let a = s .args in
     rw (decimal-more (a .x) (g .if1 .left), ← d .digit2 .ensures)
-    (wrote-then (a .k) (q .put-decimal .result) (p .put-byte2 .result) (decimal (a .x / 10)) (d .digit2 .result ∷ []) (a .out .now) (q .put-decimal .last .0)
-    (p .put-byte2 .last .0) (rw (d .digit2 .ensures, ← decimal-more (a .x) (g .if1 .left)) (s .pre .1)) (q .put-decimal .ensures) (p .put-byte2 .ensures))
+    (and-then (rw (d .digit2 .ensures, ← decimal-more (a .x) (g .if1 .left)) (s .pre .1)) (q .put-decimal .ensures) (p .put-byte2 .ensures))
 
 pub +put-decimal-spec : {M : Type 1} → statement M
 +put-decimal-spec =
     close μ-put-decimal λ t.
-    put-decimal-lts.spec (with t) (put-decimal-at t) put-decimal.Post
-    (digit-requires t)
-    (put-byte-requires t)
-    (same-length t)
-    (returns t)
-    (put-decimal-requires t)
-    (digit-requires-2 t)
-    (put-byte-requires-2 t)
-    (same-length-2 t)
-    (returns-2 t)
+    put-decimal-lts.spec (with t) (put-decimal-at t) put-decimal.Post (λ c κs. search needs) (put-byte-requires t) (λ c. search needs) (returns t)
+    (put-decimal-requires t) (λ c κs. search needs) (put-byte-requires-2 t) (λ c. search needs) (returns-2 t)

@@ -3,7 +3,7 @@ use mathlib.Core.List.{[], _∷_}
 use borrow.Author.Needs.{needs}
 use Rattle.text.specs.Text.{tab, decimal, numbers, line}
 use Rattle.text.specs.Wrote.{Room}
-use Rattle.text.proofs.Writing.{wrote-then, room-first, room-then}
+use Rattle.text.proofs.Writing.{room-first, room-left, and-then}
 use Rattle.text.proofs.line_of_three.Statement.{statement}
 use Rattle.text.proofs.line_of_three.Tie as tie
 
@@ -20,7 +20,7 @@ unfolding line
 behind-word p =
     let s = p .before .before .before .before in
     let a = s .args in
-    room-then (a .k) (p .put-word .result) (a .word .now) (numbers (a .x ∷ a .y ∷ a .z ∷ [])) (a .out .now) (p .put-word .last .0) (s .pre) (p .put-word .ensures)
+    room-left (numbers (a .x ∷ a .y ∷ a .z ∷ [])) (s .pre) (p .put-word .ensures)
 
 put-number-requires : tie.Need-put-number-requires
 unfolding numbers
@@ -35,15 +35,13 @@ unfolding numbers
 behind-number q =
     let p = q .before .before .before .before in
     let a = p .before .before .before .before .args in
-    room-then (p .put-word .result) (q .put-number .result) (tab ∷ decimal (a .x)) (numbers (a .y ∷ a .z ∷ [])) (p .put-word .last .0) (q .put-number .last .0)
-    (behind-word p) (q .put-number .ensures)
+    room-left (numbers (a .y ∷ a .z ∷ [])) (behind-word p) (q .put-number .ensures)
 
 put-number-requires-2 : tie.Need-put-number-requires-2
 unfolding numbers
 put-number-requires-2 c κs =
     let q = c .before .before .before in
-    let p = q .before .before .before .before in
-    let a = p .before .before .before .before .args in
+    let a = q .before .before .before .before .before .before .before .before .args in
     room-first (q .put-number .result) (tab ∷ decimal (a .y)) (numbers (a .z ∷ [])) (q .put-number .last .0) (behind-number q)
 
 put-last-requires : tie.Need-put-last-requires
@@ -51,13 +49,7 @@ unfolding numbers
 put-last-requires c κs =
     let m = c .before .before .before in
     let q = m .before .before .before .before in
-    let p = q .before .before .before .before in
-    let a = p .before .before .before .before .args in
-    room-then (q .put-number .result) (m .put-number2 .result) (tab ∷ decimal (a .y)) (numbers (a .z ∷ [])) (q .put-number .last .0) (m .put-number2 .last .0)
-    (behind-number q) (m .put-number2 .ensures)
-
-same-length : tie.Need-same-length
-same-length c = search needs
+    room-left (numbers (q .before .before .before .before .before .before .before .before .args .z ∷ [])) (behind-number q) (m .put-number2 .ensures)
 
 returns : tie.Need-returns
 unfolding line numbers
@@ -66,15 +58,8 @@ returns c =
     let m = l .before .before .before .before in
     let q = m .before .before .before .before in
     let p = q .before .before .before .before in
-    let s = p .before .before .before .before in
-    let a = s .args in
-    wrote-then (a .k) (p .put-word .result) (l .put-last .result) (a .word .now) (numbers (a .x ∷ a .y ∷ a .z ∷ [])) (a .out .now) (p .put-word .last .0)
-    (l .put-last .last .0) (s .pre) (p .put-word .ensures)
-    (wrote-then (p .put-word .result) (q .put-number .result) (l .put-last .result) (tab ∷ decimal (a .x)) (numbers (a .y ∷ a .z ∷ [])) (p .put-word .last .0)
-    (q .put-number .last .0) (l .put-last .last .0) (behind-word p) (q .put-number .ensures)
-    (wrote-then (q .put-number .result) (m .put-number2 .result) (l .put-last .result) (tab ∷ decimal (a .y)) (numbers (a .z ∷ [])) (q .put-number .last .0)
-    (m .put-number2 .last .0) (l .put-last .last .0) (behind-number q) (m .put-number2 .ensures) (l .put-last .ensures)))
+    and-then (p .before .before .before .before .pre) (p .put-word .ensures)
+    (and-then (behind-word p) (q .put-number .ensures) (and-then (behind-number q) (m .put-number2 .ensures) (l .put-last .ensures)))
 
 pub line-of-three-spec : {M : Type 1} → statement M
-line-of-three-spec =
-    tie.close (tie.spec put-word-requires put-number-requires put-number-requires-2 put-last-requires same-length returns)
+line-of-three-spec = tie.close (tie.spec put-word-requires put-number-requires put-number-requires-2 put-last-requires (λ c. search needs) returns)

@@ -3,7 +3,7 @@ use mathlib.Core.List.{[], _∷_}
 use borrow.Author.Needs.{needs}
 use Rattle.text.specs.Text.{tab, decimal, numbers, line}
 use Rattle.text.specs.Wrote.{Room}
-use Rattle.text.proofs.Writing.{wrote-then, room-first, room-then}
+use Rattle.text.proofs.Writing.{room-first, room-left, and-then}
 use Rattle.text.proofs.line_of_two.Statement.{statement}
 use Rattle.text.proofs.line_of_two.Tie as tie
 
@@ -11,16 +11,12 @@ put-word-requires : tie.Need-put-word-requires
 unfolding line
 put-word-requires c κs =
     let s = c .before .before .before in
-    let a = s .args in
-    room-first (a .k) (a .word .now) (numbers (a .x ∷ a .y ∷ [])) (a .out .now) (s .pre)
+    room-first (s .args .k) (s .args .word .now) (numbers (s .args .x ∷ s .args .y ∷ [])) (s .args .out .now) (s .pre)
 
 -- the room behind the word
 behind-word : (p : tie.After-put-word) → let a = p .before .before .before .before .args in Room (p .put-word .result) (numbers (a .x ∷ a .y ∷ [])) (p .put-word .last .0)
 unfolding line
-behind-word p =
-    let s = p .before .before .before .before in
-    let a = s .args in
-    room-then (a .k) (p .put-word .result) (a .word .now) (numbers (a .x ∷ a .y ∷ [])) (a .out .now) (p .put-word .last .0) (s .pre) (p .put-word .ensures)
+behind-word p = let s = p .before .before .before .before in room-left (numbers (s .args .x ∷ s .args .y ∷ [])) (s .pre) (p .put-word .ensures)
 
 put-number-requires : tie.Need-put-number-requires
 unfolding numbers
@@ -34,12 +30,7 @@ unfolding numbers
 put-last-requires c κs =
     let q = c .before .before .before in
     let p = q .before .before .before .before in
-    let a = p .before .before .before .before .args in
-    room-then (p .put-word .result) (q .put-number .result) (tab ∷ decimal (a .x)) (numbers (a .y ∷ [])) (p .put-word .last .0) (q .put-number .last .0)
-    (behind-word p) (q .put-number .ensures)
-
-same-length : tie.Need-same-length
-same-length c = search needs
+    room-left (numbers (p .before .before .before .before .args .y ∷ [])) (behind-word p) (q .put-number .ensures)
 
 returns : tie.Need-returns
 unfolding line numbers
@@ -47,12 +38,7 @@ returns c =
     let l = c .before .before in
     let q = l .before .before .before .before in
     let p = q .before .before .before .before in
-    let s = p .before .before .before .before in
-    let a = s .args in
-    wrote-then (a .k) (p .put-word .result) (l .put-last .result) (a .word .now) (numbers (a .x ∷ a .y ∷ [])) (a .out .now) (p .put-word .last .0)
-    (l .put-last .last .0) (s .pre) (p .put-word .ensures)
-    (wrote-then (p .put-word .result) (q .put-number .result) (l .put-last .result) (tab ∷ decimal (a .x)) (numbers (a .y ∷ [])) (p .put-word .last .0)
-    (q .put-number .last .0) (l .put-last .last .0) (behind-word p) (q .put-number .ensures) (l .put-last .ensures))
+    and-then (p .before .before .before .before .pre) (p .put-word .ensures) (and-then (behind-word p) (q .put-number .ensures) (l .put-last .ensures))
 
 pub line-of-two-spec : {M : Type 1} → statement M
-line-of-two-spec = tie.close (tie.spec put-word-requires put-number-requires put-last-requires same-length returns)
+line-of-two-spec = tie.close (tie.spec put-word-requires put-number-requires put-last-requires (λ c. search needs) returns)

@@ -24,9 +24,6 @@ returns-2 c =
     let a = c .before .before .args in
     simp (lt-leb (a .base + a .at + 16) (a .base + a .len) (omega arith), and-false)
 
-add-result : tie.Need-add-result
-add-result c = search needs
-
 returns-3 : tie.Need-returns-3
 unfolding descriptorFits within
 returns-3 c =
@@ -35,4 +32,4 @@ returns-3 c =
     (mod-sum (a .base) (a .at), le-leb (a .base) (a .base + a .at) (omega arith), le-leb (a .base + a .at + 16) (a .base + a .len) (omega arith), and-true)
 
 pub descriptor-fits-spec : {M : Type 1} → statement M
-descriptor-fits-spec = tie.close (tie.spec returns returns-2 add-result returns-3)
+descriptor-fits-spec = tie.close (tie.spec returns returns-2 (λ c. search needs) returns-3)

@@ -11,12 +11,6 @@ returns c =
     let a = c .before .args in
     simp (le-ltb (2 ^ 64) (a .base + a .len) (omega arith))
 
-sub-last : tie.Need-sub-last
-sub-last c = search needs
-
-sub-if2 : tie.Need-sub-if2
-sub-if2 c = search needs
-
 returns-2 : tie.Need-returns-2
 returns-2 c =
     let a = c .before .before .args in
@@ -28,4 +22,5 @@ returns-3 c =
     simp (le-ltb (2 ^ 64) (a .base + a .len) (omega arith))
 
 pub window-fits-spec : {M : Type 1} → statement M
-window-fits-spec = tie.close (tie.spec returns sub-last sub-if2 returns-2 returns-3)
+window-fits-spec =
+    tie.close (tie.spec returns (λ c. search needs) (λ c. search needs) returns-2 returns-3)

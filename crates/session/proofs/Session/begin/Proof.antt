@@ -1,81 +1,73 @@
 -- `begin` meets its contract. Assumes nothing.
-use Rattle.session.specs.declared.Session.{Session}
-use Rattle.session.specs.declared.Session.the-variants.{Regular}
-use Rattle.session.specs.Calls.{held, beginLine, beginCall}
-use Rattle.session.proofs.Lines.{staging-led, other-led, not-led, begin-regular, regular-fits, begin-staging}
-use Rattle.session.proofs.Named.{not-begun}
+use mathlib.Core.Path.{_≡_, refl, sym, ap, _∙_}
+use mathlib.Core.Bool.{true, false}
+use mathlib.Core.List.{_∷_, []}
+use lib.ListN.{length}
+use Rattle.refusals.specs.declared.Refusal.the-variants.{SessionState}
+use Rattle.verdicts.specs.Decide.{accepted, decisionOf, decide}
+use Rattle.changes.specs.Changed.{begin, changeOf, newRecord}
+use Rattle.session.specs.Sessions.{namedFor}
+use Rattle.session.specs.Calls.{commonTests, ownTests, nextSession}
+use Rattle.session.proofs.Named.{named-by}
+use Rattle.session.proofs.Answered.{common-held, common-changeable, refused-first, refused-own, accepted-own}
+use native.Mathlib.Omega.{arith}
+use Rattle.committed_set.proofs.Known.{known}
 use borrow.Author.Needs.{needs}
 use Rattle.session.proofs.Session.begin.Statement.{statement}
 use Rattle.session.proofs.Session.begin.Tie as tie
 
-enum-told : tie.Need-enum-told
-enum-told c = search needs
-
-begin-regular-requires : tie.Need-begin-regular-requires
-begin-regular-requires c κs = search needs
-
-answered-requires : tie.Need-answered-requires
-answered-requires c κs = search needs
-
-same-length : tie.Need-same-length
-same-length c = search needs
+-- none of 20, 23, 21, 22 and 24
+admitted : (c : tie.After-enum-told) → let s = c .before .before .before .before .before in accepted ≡ decide (commonTests (s .args .self) (s .args .area .now) (length (s .args .out .now)))
+admitted c = ap decisionOf (sym (c .enum-told .given .1)) ∙ c .before .before .admit .ensures
 
 returns : tie.Need-returns
-unfolding beginCall
 returns c =
-    let l = c .before .before .before in
-    let t = l .before .before in
-    let s = t .before .before .before .before in
-    rw (c .answered .ensures)
-    (other-led (s .args .self) Regular (s .args .area .now) (s .args .out .now) _ _ (λ (q : Session). beginLine q (s .args .area .now) (s .args .out .now)) (t .enum-told .given .1) (regular-fits (held (s .args .area .now)))
-    (l .begin-regular .ensures) (begin-regular (s .args .area .now) (s .args .out .now)))
+    let v = c .before .before in
+    let m = v .before .before in
+    let s = m .before .before .before in
+    rw (c .refused .ensures) (refused-first begin (s .args .self) (s .args .area .now) (s .args .out .now) _ _ (v .verdict .given .1) (m .admit .ensures))
 
-enum-known-self : tie.Need-enum-known-self
-enum-known-self c = search needs
+held-record-requires : tie.Need-held-record-requires
+held-record-requires c κs =
+    let t = c .before in
+    let s = t .before .before .before .before .before in
+    common-held (s .args .self) (s .args .area .now) (length (s .args .out .now)) (admitted t)
 
-begin-staging-requires : tie.Need-begin-staging-requires
-begin-staging-requires c κs = search needs
+cast-bank : tie.Need-cast-bank
+cast-bank c =
+    let h = c .before .held-record in omega (arith, c .update-bank .ensures .1, known (h .result .now) (h .ensures .1) .banks-high)
 
-answered-requires-2 : tie.Need-answered-requires-2
-answered-requires-2 c κs = search needs
-
-same-length-2 : tie.Need-same-length-2
-same-length-2 c = search needs
+changed-requires : tie.Need-changed-requires
+changed-requires c κs =
+    let t = c .before .before .before .before in
+    let s = t .before .before .before .before .before in
+    (common-changeable (s .args .self) (s .args .area .now) (s .args .out .now) (admitted t), tt)
 
 returns-2 : tie.Need-returns-2
-unfolding beginCall
+unfolding decide ownTests nextSession newRecord changeOf
 returns-2 c =
-    let l = c .before .before .before in
-    let v = l .before .before .before in
-    let s = v .before .before .before .before in
-    let bank = v .self .given .0 .0 in
-    let set = v .self .given .0 .1 .0 in
-    rw (c .answered2 .ensures)
-    (staging-led (s .args .self) bank set (s .args .area .now) (s .args .out .now) _ _ (λ (q : Session). beginLine q (s .args .area .now) (s .args .out .now)) (v .self .given .1) (l .begin-staging .ensures)
-    (begin-staging bank set (s .args .area .now) (s .args .out .now)))
-
-not-named-requires : tie.Need-not-named-requires
-not-named-requires c κs = search needs
+    let x = c .before .before in
+    let b = x .before .before in
+    let h = b .before in
+    let m = h .before in
+    let t = m .before in
+    let s = t .before .before .before .before .before in
+    accepted-own begin (s .args .self) (s .args .area .now) (s .args .out .now) _ _ (admitted t)
+    (rw (named-by true (s .args .self) (0 ∷ 1 ∷ []) (namedFor begin) (m .match2 .keys1) refl))
+    (rw (← h .held-record .ensures .0, ← b .update-bank .ensures .0)) (x .changed .ensures)
 
 returns-3 : tie.Need-returns-3
-unfolding beginCall
+unfolding decide ownTests
 returns-3 c =
-    let s = c .before .before .before .before in
-    rw (c .not-named .ensures) (not-led (s .args .self) (s .args .area .now) (s .args .out .now) _ (not-begun (s .args .self) (s .args .area .now) (s .args .out .now) (c .before .match .keys3)))
+    let t = c .before .before in
+    let s = t .before .before .before .before .before in
+    rw (c .refused2 .ensures)
+    (refused-own begin (s .args .self) (s .args .area .now) (s .args .out .now) SessionState (admitted t)
+    (rw (named-by false (s .args .self) (2 ∷ 3 ∷ 4 ∷ []) (namedFor begin) (c .before .match2 .keys2) refl)))
 
 pub begin-spec : {M : Type 1} → statement M
 begin-spec =
     tie.close
-    (tie.spec
-    enum-told
-    begin-regular-requires
-    answered-requires
-    same-length
-    returns
-    enum-known-self
-    begin-staging-requires
-    answered-requires-2
-    same-length-2
-    returns-2
-    not-named-requires
-    returns-3)
+    (tie.spec (λ c κs. search needs) (λ c. search needs) (λ c κs. search needs) returns (λ c. search needs)
+    held-record-requires (λ c κs. search needs) cast-bank changed-requires (λ c. search needs) returns-2
+    (λ c κs. search needs) returns-3)

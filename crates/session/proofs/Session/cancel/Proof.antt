@@ -1,45 +1,53 @@
 -- `cancel` meets its contract. Assumes nothing.
-use Rattle.session.specs.Calls.{cancelCall}
-use Rattle.session.proofs.Lines.{not-led, cancel-led}
-use Rattle.session.proofs.Named.{no-cancel}
+use mathlib.Core.Path.{_≡_, refl, sym, ap, _∙_}
+use mathlib.Core.Bool.{true, false}
+use mathlib.Core.List.{_∷_, []}
+use lib.ListN.{length}
+use Rattle.refusals.specs.declared.Refusal.the-variants.{SessionState}
+use Rattle.verdicts.specs.Decide.{accepted, decisionOf, decide}
+use Rattle.changes.specs.Changed.{cancel, changeOf, changedBy, newRecord}
+use Rattle.session.specs.Sessions.{namedFor}
+use Rattle.session.specs.Calls.{commonTests, ownTests, nextSession}
+use Rattle.session.proofs.Named.{named-by}
+use Rattle.session.proofs.Answered.{common-held, refused-first, refused-own, accepted-own, unchanged}
 use borrow.Author.Needs.{needs}
 use Rattle.session.proofs.Session.cancel.Statement.{statement}
 use Rattle.session.proofs.Session.cancel.Tie as tie
 
-enum-known-self : tie.Need-enum-known-self
-enum-known-self c = search needs
-
-not-named-requires : tie.Need-not-named-requires
-not-named-requires c κs = search needs
+-- none of 20, 23, 21, 22 and 24
+admitted : (c : tie.After-enum-told) → let s = c .before .before .before .before .before in accepted ≡ decide (commonTests (s .args .self) (s .args .area .now) (length (s .args .out .now)))
+admitted c = ap decisionOf (sym (c .enum-told .given .1)) ∙ c .before .before .admit .ensures
 
 returns : tie.Need-returns
-unfolding cancelCall
 returns c =
-    let s = c .before .before .before .before in
-    rw (c .not-named .ensures) (not-led (s .args .self) (s .args .area .now) (s .args .out .now) _ (no-cancel (s .args .self) (s .args .area .now) (s .args .out .now) (c .before .match .keys2)))
-
-cancel-call-requires : tie.Need-cancel-call-requires
-cancel-call-requires c κs = search needs
-
-answered-requires : tie.Need-answered-requires
-answered-requires c κs = search needs
+    let v = c .before .before in
+    let m = v .before .before in
+    let s = m .before .before .before in
+    rw (c .refused .ensures) (refused-first cancel (s .args .self) (s .args .area .now) (s .args .out .now) _ _ (v .verdict .given .1) (m .admit .ensures))
 
 returns-2 : tie.Need-returns-2
-unfolding cancelCall
+unfolding decide ownTests
 returns-2 c =
-    let l = c .before in
-    let v = l .before .before in
-    let s = v .before .before .before .before in
-    rw (c .answered .ensures)
-    (cancel-led (s .args .self) (v .self .given .0 .0) (v .self .given .0 .1 .0) (s .args .area .now) (s .args .out .now) _ (v .self .given .1) (l .cancel-call .ensures))
+    let t = c .before .before in
+    let s = t .before .before .before .before .before in
+    rw (c .refused2 .ensures)
+    (refused-own cancel (s .args .self) (s .args .area .now) (s .args .out .now) SessionState (admitted t)
+    (rw (named-by false (s .args .self) (0 ∷ 2 ∷ 3 ∷ 4 ∷ []) (namedFor cancel) (c .before .match2 .keys2) refl)))
+
+returns-3 : tie.Need-returns-3
+unfolding decide ownTests nextSession newRecord changeOf changedBy
+returns-3 c =
+    let m = c .before .before in
+    let t = m .before in
+    let s = t .before .before .before .before .before in
+    let a = s .args .area .now in
+    let h = common-held (s .args .self) a (length (s .args .out .now)) (admitted t) in
+    rw (c .accepted .ensures)
+    (accepted-own cancel (s .args .self) a (s .args .out .now) _ _ (admitted t)
+    (rw (named-by true (s .args .self) (1 ∷ []) (namedFor cancel) (m .match2 .keys1) refl)) refl (unchanged _ a (s .args .out .now) (h .1)))
 
 pub cancel-spec : {M : Type 1} → statement M
 cancel-spec =
     tie.close
-    (tie.spec
-    enum-known-self
-    not-named-requires
-    returns
-    cancel-call-requires
-    answered-requires
-    returns-2)
+    (tie.spec (λ c κs. search needs) (λ c. search needs) (λ c κs. search needs) returns (λ c. search needs)
+    (λ c. search needs) (λ c κs. search needs) returns-2 (λ c κs. search needs) returns-3)

@@ -1,53 +1,88 @@
 -- `end` meets its contract. Assumes nothing.
-use Rattle.session.specs.declared.Session.{Session}
-use Rattle.session.specs.Calls.{endLine, endCall}
-use Rattle.session.proofs.Lines.{staging-led, not-led, end-line}
-use Rattle.session.proofs.Named.{no-end}
+use mathlib.Core.Path.{_≡_, refl, sym, ap, _∙_}
+use mathlib.Core.Bool.{true, false}
+use mathlib.Core.List.{_∷_, []}
+use lib.ListN.{length}
+use Rattle.verdicts.specs.Decide.{accepted, decisionOf, decide}
+use borrow.Author.Tests.{eq-eqb, ne-eqb}
+use Rattle.refusals.specs.declared.Refusal.the-variants.{SessionState, ImagesMissing}
+use Rattle.changes.specs.Changed.{end, changeOf, newRecord}
+use Rattle.session.specs.Sessions.{namedFor}
+use Rattle.session.specs.Calls.{commonTests, ownTests, nextSession}
+use Rattle.session.proofs.Named.{named-by}
+use Rattle.session.proofs.Answered.{common-held, common-changeable, common-below, refused-first, refused-own, accepted-own}
 use borrow.Author.Needs.{needs}
 use Rattle.session.proofs.Session.end.Statement.{statement}
 use Rattle.session.proofs.Session.end.Tie as tie
 
-enum-known-self : tie.Need-enum-known-self
-enum-known-self c = search needs
-
-not-named-requires : tie.Need-not-named-requires
-not-named-requires c κs = search needs
+-- none of 20, 23, 21, 22 and 24
+admitted : (c : tie.After-enum-told) → let s = c .before .before .before .before .before in accepted ≡ decide (commonTests (s .args .self) (s .args .area .now) (length (s .args .out .now)))
+admitted c = ap decisionOf (sym (c .enum-told .given .1)) ∙ c .before .before .admit .ensures
 
 returns : tie.Need-returns
-unfolding endCall
 returns c =
-    let s = c .before .before .before .before in
-    rw (c .not-named .ensures) (not-led (s .args .self) (s .args .area .now) (s .args .out .now) _ (no-end (s .args .self) (s .args .area .now) (s .args .out .now) (c .before .match .keys2)))
-
-end-call-requires : tie.Need-end-call-requires
-end-call-requires c κs = search needs
-
-answered-requires : tie.Need-answered-requires
-answered-requires c κs = search needs
-
-same-length : tie.Need-same-length
-same-length c = search needs
+    let v = c .before .before in
+    let m = v .before .before in
+    let s = m .before .before .before in
+    rw (c .refused .ensures) (refused-first end (s .args .self) (s .args .area .now) (s .args .out .now) _ _ (v .verdict .given .1) (m .admit .ensures))
 
 returns-2 : tie.Need-returns-2
-unfolding endCall
+unfolding decide ownTests
 returns-2 c =
-    let l = c .before .before .before in
-    let v = l .before .before .before in
-    let s = v .before .before .before .before in
-    let bank = v .self .given .0 .0 in
-    let set = v .self .given .0 .1 .0 in
-    rw (c .answered .ensures)
-    (staging-led (s .args .self) bank set (s .args .area .now) (s .args .out .now) _ _ (λ (q : Session). endLine q (s .args .area .now) (s .args .out .now)) (v .self .given .1) (l .end-call .ensures)
-    (end-line bank set (s .args .area .now) (s .args .out .now)))
+    let t = c .before .before in
+    let s = t .before .before .before .before .before in
+    rw (c .refused2 .ensures)
+    (refused-own end (s .args .self) (s .args .area .now) (s .args .out .now) SessionState (admitted t)
+    (rw (named-by false (s .args .self) (0 ∷ 2 ∷ 3 ∷ 4 ∷ []) (namedFor end) (c .before .match2 .keys2) refl)))
+
+held-record-requires : tie.Need-held-record-requires
+held-record-requires c κs =
+    let t = c .before .before .before in
+    let s = t .before .before .before .before .before in
+    common-held (s .args .self) (s .args .area .now) (length (s .args .out .now)) (admitted t)
+
+missing-images-requires : tie.Need-missing-images-requires
+missing-images-requires c κs =
+    let v = c .before .before in
+    let t = v .before .before in
+    let s = t .before .before .before .before .before in
+    let g = v .self .given in
+    (c .held-record .ensures .1, rw (c .held-record .ensures .0) (common-below (s .args .self) (g .0 .0) (g .0 .1 .0) (s .args .area .now) (length (s .args .out .now)) (g .1) (admitted t)))
+
+returns-3 : tie.Need-returns-3
+unfolding decide ownTests
+returns-3 c =
+    let m = c .before .before in
+    let h = m .before in
+    let v = h .before .before in
+    let t = v .before .before in
+    let s = t .before .before .before .before .before in
+    rw (c .refused3 .ensures, ← v .self .given .1)
+    (refused-own end (s .args .self) (s .args .area .now) (s .args .out .now) (ImagesMissing (m .missing-images .result)) (admitted t)
+    (rw (v .self .given .1, ← h .held-record .ensures .0, ← m .missing-images .ensures, ne-eqb _ _ (c .before .if1 .taken))))
+
+changed-requires : tie.Need-changed-requires
+changed-requires c κs =
+    let t = c .before .before .before .before .before .before .before in
+    let s = t .before .before .before .before .before in
+    (common-changeable (s .args .self) (s .args .area .now) (s .args .out .now) (admitted t), tt)
+
+returns-4 : tie.Need-returns-4
+unfolding decide ownTests nextSession newRecord changeOf
+returns-4 c =
+    let x = c .before .before in
+    let e = x .before .before in
+    let m = e .before in
+    let h = m .before in
+    let v = h .before .before in
+    let t = v .before .before in
+    let s = t .before .before .before .before .before in
+    accepted-own end (s .args .self) (s .args .area .now) (s .args .out .now) _ _ (admitted t)
+    (rw (v .self .given .1, ← h .held-record .ensures .0, ← m .missing-images .ensures, eq-eqb _ _ (e .if1 .left))) refl (x .changed .ensures)
 
 pub end-spec : {M : Type 1} → statement M
 end-spec =
     tie.close
-    (tie.spec
-    enum-known-self
-    not-named-requires
-    returns
-    end-call-requires
-    answered-requires
-    same-length
-    returns-2)
+    (tie.spec (λ c κs. search needs) (λ c. search needs) (λ c κs. search needs) returns (λ c. search needs)
+    (λ c. search needs) (λ c κs. search needs) returns-2 held-record-requires missing-images-requires
+    (λ c κs. search needs) returns-3 changed-requires (λ c. search needs) returns-4)

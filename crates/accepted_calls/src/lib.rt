@@ -1,0 +1,1 @@
+// What an accepted call tells (specs/AcceptedCalls.antt). There is no code here.

@@ -1,2 +1,0 @@
--- The new definitions beside the old. Assumes nothing.
-pub mod Bridge

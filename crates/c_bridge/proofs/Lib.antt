@@ -1,2 +1,0 @@
--- The answers in numbers are the same.
-pub mod ExportBridge

@@ -1,2 +1,0 @@
--- The answers in numbers, new beside old. Assumes nothing.
-pub mod ExportBridge

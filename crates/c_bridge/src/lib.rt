@@ -1,1 +1,0 @@
-// The exported functions answer the same numbers: specs and proofs alone.

@@ -1,0 +1,2 @@
+-- A law of sessions in numbers, for whoever calls from C. Assumes nothing.
+pub mod Sessions

@@ -1,2 +1,0 @@
--- The new statement of demand 3 beside the old. Assumes nothing.
-pub mod DemandBridge

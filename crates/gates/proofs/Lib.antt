@@ -1,2 +1,0 @@
--- Laws of the tests, for the proofs here and in the crates above.
-pub mod Gates

@@ -1,0 +1,2 @@
+-- The laws of a history, for the proofs in the crates above.
+pub mod HistoryLaws

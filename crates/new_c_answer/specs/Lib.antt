@@ -1,2 +1,0 @@
--- An answer in numbers. Assumes nothing.
-pub mod Answers

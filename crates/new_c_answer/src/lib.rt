@@ -1,1 +1,0 @@
-// An answer in numbers, as the re-shaped product states it: specs alone.

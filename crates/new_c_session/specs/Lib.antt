@@ -1,2 +1,0 @@
--- A session in numbers. Assumes nothing.
-pub mod Numbers

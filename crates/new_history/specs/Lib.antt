@@ -1,2 +1,0 @@
--- One history of start-ups, repairs and calls. Assumes nothing.
-pub mod History

@@ -1,1 +1,0 @@
-// One history, as the re-shaped product states it: specs alone.

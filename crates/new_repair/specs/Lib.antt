@@ -1,3 +1,0 @@
--- Repair. Assumes nothing.
-pub mod RepairStores
-pub mod Repair

@@ -1,2 +1,0 @@
--- What is tested of an area and a store slice. Assumes nothing.
-pub mod Rows

@@ -1,1 +1,0 @@
-// The bench sheet, as the re-shaped product states it: specs alone.

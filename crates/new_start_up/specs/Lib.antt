@@ -1,2 +1,0 @@
--- Start-up. Assumes nothing.
-pub mod StartUp

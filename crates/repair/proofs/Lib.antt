@@ -1,2 +1,0 @@
--- Laws of repair's list, for the proofs here.
-pub mod Listing

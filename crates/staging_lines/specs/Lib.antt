@@ -1,2 +1,0 @@
--- The own lines of Begin, Commit and End, over numbers. Assumes nothing.
-pub mod Lines

@@ -1,2 +1,0 @@
--- Laws of the lines, for the proofs here.
-pub mod Lines

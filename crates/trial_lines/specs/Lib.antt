@@ -1,2 +1,0 @@
--- The own lines of Accept and Select previous, over numbers. Assumes nothing.
-pub mod Lines
