@@ -115,11 +115,11 @@ uint64_t meanderpeg_capsule_hardware_instance(const uint8_t *capsule, size_t cap
 
 /* ---- The record ---- */
 
-/* Sets `copies` to which copies are sound: bit 0 for copy 0, bit 1 for copy 1, bit 2 where both are and are equal ("Copies are
+/* Sets `record_copies` to which copies are sound: bit 0 for copy 0, bit 1 for copy 1, bit 2 where both are and are equal ("Copies are
  * equal if their records are, byte for byte."). So 0, 1, 2, 3 or 7. Refusal 20, which leaves it as it was. */
 uint32_t meanderpeg_soundness(const uint8_t *area, size_t area_length, uint32_t *copies);
 
-/* The bench sheet's text at the front of `text`; answers how many bytes it has, and every byte past it stays. A refused area has
+/* The bench sheet's text at the front of `report_text`; answers how many bytes it has, and every byte past it stays. A refused area has
  * a sheet too: `refused`, tab, number, line feed. No zero byte ends the text. A slice below 4,096 bytes stays whole, whatever the area,
  * and the answer is 0, which no sheet has. */
 size_t meanderpeg_sheet(const uint8_t *area, size_t area_length, uint8_t *text, size_t text_length);
@@ -129,7 +129,7 @@ size_t meanderpeg_sheet(const uint8_t *area, size_t area_length, uint8_t *text, 
 uint32_t meanderpeg_start_up(const uint8_t *area, size_t area_length, uint32_t booted, uint32_t *kind);
 
 /* ---- Stores ----
- * Repair and the calls alter no area. They list stores, "each a pair (offset, word)", at the front of `stores`, and set `pairs` to
+ * Repair and the calls alter no area. They list stores, "each a pair (offset, word)", at the front of `record_stores`, and set `pairs` to
  * how many there are. The caller does them in list order: each puts its word, little-endian, into the four bytes of the area at its
  * offset. "Numbers past the list stay." The slice must hold 4,200 numbers, else 23. */
 

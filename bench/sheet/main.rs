@@ -1,4 +1,4 @@
-// The bench sheet from outside: the sample areas of crates/sheet_tests/data, and a second, independent version of the sheet,
+// The bench sheet from outside: the sample areas of crates/test_report/data, and a second, independent version of the sheet,
 // with which bench_sheet is compared on many areas. See `run`.
 use std::io::Write;
 use std::process::{Command, Stdio};

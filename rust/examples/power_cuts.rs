@@ -122,7 +122,7 @@ fn read(file: &Path, counts: &mut Counts) -> Option<(Vec<u8>, Vec<u8>)> {
     Some((area, record))
 }
 
-/// Repairs until one repair finished. Answers whether each start-up read `record` and the area left is `wanted`.
+/// Repairs until one repair finished. Answers whether each start-up read `record_layout` and the area left is `wanted`.
 fn repair(file: &Path, record: &[u8], wanted: &[u8], draw: &mut Draw, counts: &mut Counts) -> bool {
     let mut killed = 0;
     loop {

@@ -22,8 +22,8 @@ pub fn soundness(area: &[u8]) -> Result<Soundness, Refusal> {
     }
 }
 
-/// The bench sheet of an area, at the front of `text`, of which every byte past it stays. A refused area has a sheet too:
-/// `refused`, tab, number (20 or 21). None, with `text` as it was, if `text` has less than 4,096 bytes.
+/// The bench sheet of an area, at the front of `report_text`, of which every byte past it stays. A refused area has a sheet too:
+/// `refused`, tab, number (20 or 21). None, with `report_text` as it was, if `report_text` has less than 4,096 bytes.
 pub fn sheet<'a>(area: &[u8], text: &'a mut [u8]) -> Option<&'a str> {
     let length = raw::sheet(area, text);
     if length == 0 {

@@ -10,7 +10,7 @@ use crate::session::*;
 use crate::sheet::{sheet, sheet_in, SHEET_BYTES};
 
 /// The entries, by name, in the order in which they are reported. The last has no place in the comparison with
-/// crates/random_tests, which asks for soundness instead: the product's interface tells no failing rule's number.
+/// crates/test_random, which asks for soundness instead: the product's interface tells no failing rule's number.
 pub const ENTRIES: [&str; 13] = [
     "gather",
     "capsule",
@@ -27,7 +27,7 @@ pub const ENTRIES: [&str; 13] = [
     "rules",
 ];
 
-/// How many thousands of inputs the comparison with crates/random_tests takes of an entry.
+/// How many thousands of inputs the comparison with crates/test_random takes of an entry.
 pub fn thousands(entry: &str) -> u64 {
     match entry {
         "gather" | "capsule" => 40,

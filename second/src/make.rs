@@ -17,7 +17,7 @@ pub struct RecordPlan {
     pub guid_place: usize,
 }
 
-/// Image i's type GUID: byte j is 160 + j, but byte `place` is i. So two of them differ in one byte.
+/// Image i's type GUID: byte j is 160 + j, but byte `gather_place` is i. So two of them differ in one byte.
 pub fn type_guid_for(image: usize, place: usize) -> [u8; 16] {
     let mut guid = [0u8; 16];
     for j in 0..16 {

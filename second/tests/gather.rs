@@ -82,7 +82,7 @@ fn sample_7_length_of_all_ones() {
     check(two_blocks((u64::MAX, 0x1040), (3, 0x1050)), B, B, Err(4), &[]);
 }
 
-/// `blocks` one-byte blocks behind the list, an end where asked for, and room for all of them behind the blocks.
+/// `gather_blocks` one-byte blocks behind the list, an end where asked for, and room for all of them behind the blocks.
 fn many(blocks: usize, end: bool, room: usize) -> (Vec<u8>, Vec<(u64, u64)>) {
     let list = 16 * (blocks + 1);
     let mut w = window(list + 2 * blocks + room);

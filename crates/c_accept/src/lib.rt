@@ -2,9 +2,9 @@
 // those of crate `c_begin` do, an array of 16 bytes as a pointer.
 // Parted from its neighbours for the prover: each must-fail edit proves its whole crate again.
 use c_answer::give;
-use c_session::session_of;
+use c_session::session_named;
 ghost use mathlib.Core.Path.{_≡_};
-ghost use Rattle.changes.specs.Changed.{accept, selectPrevious};
+ghost use Rattle.update_changes.specs.Changed.{accept, selectPrevious};
 ghost use Rattle.c_answer.specs.Answers.{exported};
 
 // By type GUID.
@@ -22,7 +22,7 @@ pub extern "C" fn meanderpeg_accept(
         ≡ exported (accept (now (guid .entry))) (now (kind .entry), now (bank .entry), now (set .entry), now (pairs .entry))
         (now (area .entry)) (now (out .entry)) ⌝ }
 {
-    let session = session_of(*kind, *bank, *set);
+    let session = session_named(*kind, *bank, *set);
     let answer = session.accept(area, *guid, out);
     give(answer, kind, bank, set, pairs)
 }
@@ -41,7 +41,7 @@ pub extern "C" fn meanderpeg_select_previous(
         ≡ exported selectPrevious (now (kind .entry), now (bank .entry), now (set .entry), now (pairs .entry))
         (now (area .entry)) (now (out .entry)) ⌝ }
 {
-    let session = session_of(*kind, *bank, *set);
+    let session = session_named(*kind, *bank, *set);
     let answer = session.select_previous(area, out);
     give(answer, kind, bank, set, pairs)
 }

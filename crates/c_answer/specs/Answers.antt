@@ -4,12 +4,12 @@ use Prim.Native.Nat.{ℕ}
 use mathlib.Core.Bool.{cond}
 use mathlib.Core.List.{List, [], _∷_}
 use lib.Dec.{eqb}
-use Rattle.verdicts.specs.Decide.{Decision, accepted, refusal, Reply, gives, refuses, reply}
-use Rattle.changes.specs.Changed.{Call, end}
-use Rattle.session.specs.declared.Session.{Session}
-use Rattle.session.specs.Outcome.{Outcome}
-use Rattle.session.specs.Sessions.{kindOf, bankOf, setOf}
-use Rattle.session.specs.Calls.{Result, answered}
+use Rattle.refusal_order.specs.Decide.{Decision, passed, refusal, Reply, gives, refuses, reply}
+use Rattle.update_changes.specs.Changed.{Call, end}
+use Rattle.update_session.specs.declared.Session.{Session}
+use Rattle.update_session.specs.Outcome.{Outcome}
+use Rattle.update_session.specs.Sessions.{kindOf, bankOf, setOf}
+use Rattle.update_session.specs.Calls.{Result, answered}
 use Rattle.c_session.specs.Numbers.{sessionNamed}
 
 -- 0 and what is given, in numbers, where accepted; else the refusal's number and what stood there
@@ -53,7 +53,7 @@ abbrev pub missingOr : (old number : ℕ) → (values : List ℕ) → ℕ
 missingOr old number values = cond (eqb number 27) (countOr old values) old
 
 abbrev pub missingAfter : (old : ℕ) → Decision → ℕ
-missingAfter old accepted = old
+missingAfter old passed = old
 missingAfter old (refusal number values) = missingOr old number values
 
 -- End: the count of missing images too

@@ -1,14 +1,14 @@
 // An answer as the exported functions have it: in a number and in numbers behind references, which a refusal leaves as
 // they were.
+use refusal_order::Verdict;
 use refusals::Refusal;
-use session::Answer;
-use session::Session;
-use verdicts::Verdict;
+use update_session::Answer;
+use update_session::Session;
 ghost use mathlib.Core.Path.{_≡_};
 ghost use Rattle.refusals.specs.Number.{numberOf, valuesOf};
-ghost use Rattle.verdicts.specs.Decide.{decisionOf};
-ghost use Rattle.session.specs.Outcome.{outcomeOf};
-ghost use Rattle.session.specs.Sessions.{kindOf, bankOf, setOf};
+ghost use Rattle.refusal_order.specs.Decide.{decisionOf};
+ghost use Rattle.update_session.specs.Outcome.{outcomeOf};
+ghost use Rattle.update_session.specs.Sessions.{kindOf, bankOf, setOf};
 ghost use Rattle.c_answer.specs.Answers.{missingOr, missingAfter, exportedAnswer};
 
 // The number of a session's kind; for start-up too, which never answers Staging.
@@ -58,7 +58,7 @@ pub fn give(answer: Answer, kind: &mut u32, bank: &mut u32, set: &mut u32, pairs
     let verdict = answer.verdict;
     match verdict {
         Verdict::Refused(why) => why.number(),
-        Verdict::Accepted => {
+        Verdict::Passed => {
             let next = answer.session;
             *kind = kind_of(next);
             *bank = bank_of(next);
@@ -88,6 +88,6 @@ pub fn give_missing(answer: Answer, missing: &mut u32)
         Verdict::Refused(why) => {
             *missing = missing_or(*missing, why);
         }
-        Verdict::Accepted => {}
+        Verdict::Passed => {}
     }
 }

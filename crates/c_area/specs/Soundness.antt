@@ -2,11 +2,11 @@
 use Prim.Native.Nat.{ℕ, _+_}
 use mathlib.Core.Bool.{cond}
 use mathlib.Core.List.{List, [], _∷_}
-use Rattle.verdicts.specs.Decide.{decide, reply}
-use Rattle.record.specs.Layout.{copy0, copy1}
-use Rattle.record.specs.Rules.{soundCopy}
-use Rattle.copies.specs.Copies.{soundAndEqual}
-use Rattle.admission.specs.Rows.{lengthTest}
+use Rattle.refusal_order.specs.Decide.{decide, reply}
+use Rattle.record_layout.specs.Layout.{copy0, copy1}
+use Rattle.record_layout.specs.Rules.{soundCopy}
+use Rattle.record_copies.specs.Copies.{soundAndEqual}
+use Rattle.update_admission.specs.Rows.{lengthTest}
 use Rattle.c_answer.specs.Answers.{exportedReply}
 
 -- bit 0: copy 0 is sound; bit 1: copy 1 is; bit 2: "the copies are sound and equal"

@@ -1,11 +1,11 @@
 // The way in from C and Rust (include/meanderpeg.h): what an area holds. A slice passes as a pointer and a length, a
 // number behind a reference as a pointer. A refusal leaves what was lent as it was.
-use record::AREA;
-use record::COPY;
+use record_layout::AREA;
+use record_layout::COPY;
 ghost use mathlib.Core.Path.{_≡_};
 ghost use lib.ListN.{length};
-ghost use Rattle.record.specs.Layout.{areaSize};
-ghost use Rattle.sheet.specs.Sheet.{sheetIn};
+ghost use Rattle.record_layout.specs.Layout.{areaSize};
+ghost use Rattle.report.specs.Report.{reportIn};
 ghost use Rattle.c_area.specs.Soundness.{soundCopies, exportedSoundness};
 
 // Which copies are sound, and whether they are equal, as bits.
@@ -13,14 +13,18 @@ fn sound_copies(area: &[u8]) -> u32
     requires { ⌜ length (now area) ≡ areaSize ⌝ }
     ensures { λ r. ⌜ r ≡ soundCopies (now (area .entry)) ⌝ }
 {
-    let second = soundness::sound_copy(&area[COPY..AREA]);
-    if !soundness::sound_copy(&area[0..COPY]) {
+    let second = record_soundness::sound_copy(&area[COPY..AREA]);
+    if !record_soundness::sound_copy(&area[0..COPY]) {
         return if second { 2 } else { 0 };
     }
     if !second {
         return 1;
     }
-    if copies::records_equal(area) { 7 } else { 3 }
+    if record_copies::records_equal(area) {
+        7
+    } else {
+        3
+    }
 }
 
 // Sets the bits of `sound_copies`. Refusal 20.
@@ -35,10 +39,10 @@ pub extern "C" fn meanderpeg_soundness(area: &[u8], found: &mut u32) -> u32
     0
 }
 
-// The bench sheet's text at the front of `text`, as `sheet::sheet` writes it, and how many bytes it has.
+// The report's text at the front of `report_text`, as `report::report` writes it, and how many bytes it has.
 #[no_mangle]
-pub extern "C" fn meanderpeg_sheet(area: &[u8], text: &mut [u8]) -> usize
-    ensures { λ n. ⌜ (n, now (text .exit)) ≡ sheetIn (now (area .entry)) (now (text .entry)) ⌝ }
+pub extern "C" fn meanderpeg_report(area: &[u8], text: &mut [u8]) -> usize
+    ensures { λ n. ⌜ (n, now (text .exit)) ≡ reportIn (now (area .entry)) (now (text .entry)) ⌝ }
 {
-    sheet::sheet(area, text)
+    report::report(area, text)
 }

@@ -4,9 +4,9 @@
 // is the refusal's number, and then what was lent is as it was.
 // Parted from its neighbours for the prover: each must-fail edit proves its whole crate again.
 use c_answer::give;
-use c_session::session_of;
+use c_session::session_named;
 ghost use mathlib.Core.Path.{_≡_};
-ghost use Rattle.changes.specs.Changed.{begin, cancel};
+ghost use Rattle.update_changes.specs.Changed.{begin, cancel};
 ghost use Rattle.c_answer.specs.Answers.{exported};
 
 // Opens a Staging session.
@@ -23,7 +23,7 @@ pub extern "C" fn meanderpeg_begin(
         ≡ exported begin (now (kind .entry), now (bank .entry), now (set .entry), now (pairs .entry))
         (now (area .entry)) (now (out .entry)) ⌝ }
 {
-    let session = session_of(*kind, *bank, *set);
+    let session = session_named(*kind, *bank, *set);
     let answer = session.begin(area, out);
     give(answer, kind, bank, set, pairs)
 }
@@ -42,7 +42,7 @@ pub extern "C" fn meanderpeg_cancel(
         ≡ exported cancel (now (kind .entry), now (bank .entry), now (set .entry), now (pairs .entry))
         (now (area .entry)) (now (out .entry)) ⌝ }
 {
-    let session = session_of(*kind, *bank, *set);
+    let session = session_named(*kind, *bank, *set);
     let answer = session.cancel(area, out);
     give(answer, kind, bank, set, pairs)
 }

@@ -3,9 +3,9 @@
 // Parted from its neighbours for the prover: each must-fail edit proves its whole crate again.
 use c_answer::give;
 use c_answer::give_missing;
-use c_session::session_of;
+use c_session::session_named;
 ghost use mathlib.Core.Path.{_≡_};
-ghost use Rattle.changes.specs.Changed.{commit, end};
+ghost use Rattle.update_changes.specs.Changed.{commit, end};
 ghost use Rattle.c_session.specs.Numbers.{sessionNamed};
 ghost use Rattle.c_answer.specs.Answers.{exported, exportedMissing};
 
@@ -25,7 +25,7 @@ pub extern "C" fn meanderpeg_commit(
         ≡ exported (commit (now (guid .entry)) request) (now (kind .entry), now (bank .entry), now (set .entry), now (pairs .entry))
         (now (area .entry)) (now (out .entry)) ⌝ }
 {
-    let session = session_of(*kind, *bank, *set);
+    let session = session_named(*kind, *bank, *set);
     let answer = session.commit(area, *guid, request, out);
     give(answer, kind, bank, set, pairs)
 }
@@ -48,7 +48,7 @@ pub extern "C" fn meanderpeg_end(
         ≡ exportedMissing (sessionNamed (now (kind .entry)) (now (bank .entry)) (now (set .entry)))
         (now (area .entry)) (now (out .entry)) (now (missing .entry)) ⌝ }
 {
-    let session = session_of(*kind, *bank, *set);
+    let session = session_named(*kind, *bank, *set);
     let answer = session.end(area, out);
     give_missing(answer, missing);
     give(answer, kind, bank, set, pairs)

@@ -3,7 +3,7 @@
 // Parted from its neighbours for the prover: each must-fail edit proves its whole crate again.
 ghost use mathlib.Core.Path.{_≡_};
 ghost use Rattle.capsule_check.specs.Item.{located};
-ghost use Rattle.capsule.specs.Parts.{lengthIn};
+ghost use Rattle.capsule_items.specs.Items.{lengthIn};
 ghost use Rattle.capsule_parts.specs.Parts.{imagePart};
 
 // The length of the image of item k.

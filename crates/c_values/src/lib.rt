@@ -26,7 +26,7 @@ pub extern "C" fn meanderpeg_capsule_payloads(s: &[u8]) -> usize
 pub extern "C" fn meanderpeg_capsule_type_guid(s: &[u8], k: usize, guid: &mut [u8; 16]) -> u32
     ensures { λ r. ⌜ (r, now (guid .exit)) ≡ shownGuid (now (s .entry)) k (now (guid .entry)) ⌝ }
 {
-    let number = capsule::refusal(s, k).number();
+    let number = capsule_items::refusal(s, k).number();
     if number == 0 {
         *guid = capsule_values::type_guid(s, k);
     }

@@ -19,27 +19,27 @@ use Rattle.capsule_header.proofs.Header.{body-length}
 use Rattle.capsule_body.proofs.Body.{all-at, item-in}
 use Rattle.capsule_check.specs.Verdict.{unless, after, verdict, itemVerdict}
 use Rattle.capsule_check.specs.Item.{itemStartIn, itemEndIn, itemOf, found, located}
-use Rattle.capsule_check.specs.declared.Verdict.{Verdict}
-use Rattle.capsule_check.specs.declared.Verdict.the-variants.{Faultless}
-use Rattle.capsule_check.specs.declared.Verdict.the-variants as Verdict
+use Rattle.refusal_order.specs.declared.Verdict.{Verdict}
+use Rattle.refusal_order.specs.declared.Verdict.the-variants.{Passed}
+use Rattle.refusal_order.specs.declared.Verdict.the-variants as Verdict
 use Rattle.capsule_check.specs.declared.Item.{Item}
 use Rattle.capsule_check.specs.declared.Item.the-variants.{Driver, Payload, Refused}
-use Rattle.capsule_check.proofs.Faultless.{faultless, Sound}
+use Rattle.capsule_check.proofs.PassedCheck.{faultless, Sound}
 
 module _ (s : List ℕ) (k : ℕ) where
   pub located-refused : (r : Refusal) → verdict s ≡ Verdict.Refused r → located s k ≡ Refused r
   unfolding located itemVerdict
   located-refused r e = rw e
 
-  pub located-none : verdict s ≡ Faultless → items (body s) ≤ k → located s k ≡ Refused NoItem
+  pub located-none : verdict s ≡ Passed → items (body s) ≤ k → located s k ≡ Refused NoItem
   unfolding located itemVerdict
   located-none e h = rw (e, le-ltb k (items (body s)) h)
 
-  pub located-driver : verdict s ≡ Faultless → k < items (body s) → k < drivers (body s) → located s k ≡ Driver (itemStartIn s k) (itemEndIn s k)
+  pub located-driver : verdict s ≡ Passed → k < items (body s) → k < drivers (body s) → located s k ≡ Driver (itemStartIn s k) (itemEndIn s k)
   unfolding located itemVerdict
   located-driver e h d = rw (e, lt-ltb k (items (body s)) h, lt-ltb k (drivers (body s)) d)
 
-  pub located-payload : verdict s ≡ Faultless → k < items (body s) → drivers (body s) ≤ k → located s k ≡ Payload (itemStartIn s k) (itemEndIn s k)
+  pub located-payload : verdict s ≡ Passed → k < items (body s) → drivers (body s) ≤ k → located s k ≡ Payload (itemStartIn s k) (itemEndIn s k)
   unfolding located itemVerdict
   located-payload e h d = rw (e, lt-ltb k (items (body s)) h, le-ltb k (drivers (body s)) d)
 
@@ -67,8 +67,8 @@ module _ (s : List ℕ) (k : ℕ) (sound : Sound s) (lt : k < items (body s)) wh
 -- ---- the definition, turned round: what an answer says of the capsule
 -- the verdict that an answer carries
 abbrev pub told : Item → Verdict
-told (Driver a e) = Faultless
-told (Payload a e) = Faultless
+told (Driver a e) = Passed
+told (Payload a e) = Passed
 told (Refused r) = Verdict.Refused r
 
 pub told-judged : (s : List ℕ) (k : ℕ) → told (located s k) ≡ itemVerdict s k
@@ -76,8 +76,8 @@ unfolding located
 told-judged s k = go (itemVerdict s k) (ltb k (drivers (body s)))
   where
     go : (v : Verdict) (d : Bool) → told (found v (itemOf d (itemStartIn s k) (itemEndIn s k))) ≡ v
-    go Faultless true = refl
-    go Faultless false = refl
+    go Passed true = refl
+    go Passed false = refl
     go (Verdict.Refused r) d = refl
 
 -- what holds of an item that was found: it lies in the capsule, and a payload is right
@@ -103,11 +103,11 @@ holds s k = go (verdict s) refl
     kinds sound lt false q = (item-inside s k sound lt, payload-right s k sound lt (ltb-false k (drivers (body s)) q))
 
     numbers : Sound s → (t : Bool) → ltb k (items (body s)) ≡ t
-        → Holds s (found (unless t NoItem Faultless) (itemOf (ltb k (drivers (body s))) (itemStartIn s k) (itemEndIn s k)))
+        → Holds s (found (unless t NoItem Passed) (itemOf (ltb k (drivers (body s))) (itemStartIn s k) (itemEndIn s k)))
     numbers sound true q = kinds sound (ltb-true k (items (body s)) q) (ltb k (drivers (body s))) refl
     numbers sound false q = tt
 
     go : (v : Verdict) → verdict s ≡ v
-        → Holds s (found (after v (unless (ltb k (items (body s))) NoItem Faultless)) (itemOf (ltb k (drivers (body s))) (itemStartIn s k) (itemEndIn s k)))
-    go Faultless e = numbers (faultless s e) (ltb k (items (body s))) refl
+        → Holds s (found (after v (unless (ltb k (items (body s))) NoItem Passed)) (itemOf (ltb k (drivers (body s))) (itemStartIn s k) (itemEndIn s k)))
+    go Passed e = numbers (faultless s e) (ltb k (items (body s))) refl
     go (Verdict.Refused r) e = tt

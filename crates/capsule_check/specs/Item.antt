@@ -7,9 +7,9 @@ use lib.Dec.{ltb}
 use Rattle.capsule_header.specs.Header.{headerSize, body}
 use Rattle.capsule_body.specs.Body.{drivers, offset, itemEnd}
 use Rattle.capsule_check.specs.Verdict.{itemVerdict}
-use Rattle.capsule_check.specs.declared.Verdict.{Verdict}
-use Rattle.capsule_check.specs.declared.Verdict.the-variants.{Faultless}
-use Rattle.capsule_check.specs.declared.Verdict.the-variants as Verdict
+use Rattle.refusal_order.specs.declared.Verdict.{Verdict}
+use Rattle.refusal_order.specs.declared.Verdict.the-variants.{Passed}
+use Rattle.refusal_order.specs.declared.Verdict.the-variants as Verdict
 use Rattle.capsule_check.specs.declared.Item.{Item}
 use Rattle.capsule_check.specs.declared.Item.the-variants.{Driver, Payload, Refused}
 
@@ -27,7 +27,7 @@ itemOf false a e = Payload a e
 
 -- "Every item is checked before any is handed out."
 abbrev pub found : Verdict → Item → Item
-found Faultless i = i
+found Passed i = i
 found (Verdict.Refused r) i = Refused r
 
 -- the item k, or the refusal that stands in its way

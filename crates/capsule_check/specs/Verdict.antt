@@ -7,12 +7,12 @@ use lib.Dec.{leb, ltb}
 use lib.ListN.{length}
 use Rattle.refusals.specs.declared.Refusal.{Refusal}
 use Rattle.refusals.specs.declared.Refusal.the-variants.{CapsuleShort, CapsuleSizes, CapsuleFlags, CapsuleGuid, CapsuleBody, CapsulePayload, NoItem}
-use Rattle.refusals.specs.Number.{numberOf}
 use Rattle.capsule_header.specs.Header.{headerLeast, sizesRight, flags, flagsRight, guidRight, body}
 use Rattle.capsule_body.specs.Body.{items, bodyRight}
 use Rattle.capsule_payloads.specs.Payload.{payloadsRight}
-use Rattle.capsule_check.specs.declared.Verdict.{Verdict}
-use Rattle.capsule_check.specs.declared.Verdict.the-variants.{Faultless, Refused}
+use Rattle.refusal_order.specs.Decide.{verdictNumber}
+use Rattle.refusal_order.specs.declared.Verdict.{Verdict}
+use Rattle.refusal_order.specs.declared.Verdict.the-variants.{Passed, Refused}
 
 -- the refusal r where the test fails, else what the rest says
 abbrev pub unless : Bool → Refusal → Verdict → Verdict
@@ -28,22 +28,17 @@ verdict s =
     (unless (flagsRight (flags s)) CapsuleFlags
     (unless (guidRight s) CapsuleGuid
     (unless (bodyRight (body s)) CapsuleBody
-    (unless (payloadsRight (body s)) CapsulePayload Faultless)))))
+    (unless (payloadsRight (body s)) CapsulePayload Passed)))))
 
 -- a refusal stands; what is faultless goes on to the next verdict
 abbrev pub after : Verdict → Verdict → Verdict
-after Faultless next = next
+after Passed next = next
 after (Refused r) next = Refused r
 
 -- 16, "no item of that number". "Items are numbered from 0 in list order." 16 comes last, so of a faultless capsule
 -- alone
 unfoldable pub itemVerdict : List ℕ → ℕ → Verdict
-itemVerdict s k = after (verdict s) (unless (ltb k (items (body s))) NoItem Faultless)
-
--- what each case of a verdict states: the refusal's number; 0, which numbers no refusal, for none
-abbrev pub verdictNumber : Verdict → ℕ
-verdictNumber Faultless = 0
-verdictNumber (Refused r) = numberOf r
+itemVerdict s k = after (verdict s) (unless (ltb k (items (body s))) NoItem Passed)
 
 -- "a sister entry gives the refusal number, or none, for the same input"
 abbrev pub refusalNumber : List ℕ → ℕ → ℕ

@@ -8,27 +8,10 @@ use capsule_header::flags_right;
 use capsule_header::guid_right;
 use capsule_header::sizes_right;
 use capsule_payloads::payloads_right;
+use refusal_order::Verdict;
 ghost use mathlib.Core.Path.{_≡_};
-ghost use Rattle.capsule_check.specs.Verdict.{verdict, verdictNumber};
+ghost use Rattle.capsule_check.specs.Verdict.{verdict};
 ghost use Rattle.capsule_check.specs.Item.{located};
-
-// What the check says of a capsule.
-pub enum Verdict {
-    Faultless,
-    Refused(refusals::Refusal),
-}
-
-impl Verdict {
-    // The refusal's number, or 0 for none.
-    pub fn number(self) -> u32
-        ensures { λ r. ⌜ r ≡ verdictNumber self ⌝ }
-    {
-        match self {
-            Verdict::Faultless => 0,
-            Verdict::Refused(r) => r.number(),
-        }
-    }
-}
 
 // An item, by its start and its end in the capsule; or why there is none.
 pub enum Item {
@@ -60,12 +43,12 @@ pub fn check(s: &[u8]) -> Verdict
     if !payloads_right(b) {
         return Verdict::Refused(refusals::Refusal::CapsulePayload);
     }
-    Verdict::Faultless
+    Verdict::Passed
 }
 
 // Item k of a faultless capsule.
 fn pick(s: &[u8], k: usize) -> Item
-    requires { ⌜ verdict (now s) ≡ Verdict.Faultless ⌝ }
+    requires { ⌜ verdict (now s) ≡ Verdict.Passed ⌝ }
     ensures { λ r. ⌜ r ≡ located (now (s .entry)) k ⌝ }
 {
     let body = fields::read32(s, 16) as usize;
@@ -90,6 +73,6 @@ pub fn locate(s: &[u8], k: usize) -> Item
     let checked = check(s);
     match checked {
         Verdict::Refused(r) => Item::Refused(r),
-        Verdict::Faultless => pick(s, k),
+        Verdict::Passed => pick(s, k),
     }
 }

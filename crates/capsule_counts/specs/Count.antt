@@ -6,12 +6,12 @@ use mathlib.Core.List.{List}
 use Rattle.capsule_header.specs.Header.{body}
 use Rattle.capsule_body.specs.Body.{drivers, payloads}
 use Rattle.capsule_check.specs.Verdict.{verdict}
-use Rattle.capsule_check.specs.declared.Verdict.{Verdict}
-use Rattle.capsule_check.specs.declared.Verdict.the-variants.{Faultless, Refused}
+use Rattle.refusal_order.specs.declared.Verdict.{Verdict}
+use Rattle.refusal_order.specs.declared.Verdict.the-variants.{Passed, Refused}
 
 -- a count of a faultless capsule; 0 with a refusal
 abbrev pub countOf : Verdict → ℕ → ℕ
-countOf Faultless n = n
+countOf Passed n = n
 countOf (Refused r) n = 0
 
 unfoldable pub driverCount : List ℕ → ℕ

@@ -1,7 +1,7 @@
 // How many items of each kind a capsule has. Both entries check the whole capsule first and have no condition: a
-// refused one answers 0, and `capsule::refusal` says which refusal it was.
-use capsule_check::Verdict;
+// refused one answers 0, and `capsule_items::refusal` says which refusal it was.
 use capsule_header::body_of;
+use refusal_order::Verdict;
 ghost use mathlib.Core.Path.{_≡_};
 ghost use Rattle.capsule_counts.specs.Count.{driverCount, payloadCount};
 
@@ -17,7 +17,7 @@ fn counts_of(s: &[u8]) -> Counts
 {
     let checked = capsule_check::check(s);
     match checked {
-        Verdict::Faultless => {
+        Verdict::Passed => {
             let b = body_of(s);
             let drivers = fields::read16(b, 4) as usize;
             let payloads = fields::read16(b, 6) as usize;

@@ -11,8 +11,8 @@ use Rattle.capsule_check.specs.Item.{located}
 use Rattle.capsule_check.specs.declared.Item.{Item}
 use Rattle.capsule_check.specs.declared.Item.the-variants.{Driver, Payload, Refused}
 use Rattle.capsule_check.proofs.Places.{Holds, holds}
-use Rattle.capsule.specs.Parts.{Lies}
-use Rattle.capsule.proofs.Parts.{item-lies}
+use Rattle.capsule_items.specs.Items.{Lies}
+use Rattle.capsule_items.proofs.Items.{item-lies}
 use Rattle.capsule_parts.specs.Parts.{imagePart, vendorCodePart, PartsLie}
 
 pub part-length : (s : List ℕ) (a e : ℕ) → e ≤ length s → length (part s a e) ≡ e - a

@@ -7,7 +7,7 @@ use Rattle.capsule_payloads.specs.Payload.{imageStart, imageEnd, vendorCodeEnd}
 use Rattle.capsule_check.specs.declared.Item.{Item}
 use Rattle.capsule_check.specs.declared.Item.the-variants.{Driver, Payload, Refused}
 use Rattle.capsule_check.specs.Item.{located}
-use Rattle.capsule.specs.Parts.{Range, range, Lies, emptyAtStart, itemPart}
+use Rattle.capsule_items.specs.Items.{Range, range, Lies, emptyAtStart, itemPart}
 use Rattle.capsule_parts.specs.declared.Places.{Places}
 
 -- "the whole item for a driver, the image and the vendor code for a payload": a driver's image is its whole item

@@ -1,15 +1,15 @@
 // The parts of a capsule's items: a payload's image and vendor code. Both entries check the whole capsule first and
-// have no condition: a refused one answers the empty part at the capsule's start, and `capsule::refusal` says which
+// have no condition: a refused one answers the empty part at the capsule's start, and `capsule_items::refusal` says which
 // refusal it was.
-use capsule::part_of;
 use capsule_check::Item;
+use capsule_items::part_of;
 ghost use mathlib.Core.Path.{_≡_};
 ghost use mathlib.Core.Bool.{true};
 ghost use Prim.Native.Nat.{_+_, _^_, _<_};
 ghost use lib.ListN.{length};
 ghost use Rattle.capsule_payloads.specs.Payload.{imageStart, imageEnd, vendorCodeEnd, payloadRight};
 ghost use Rattle.capsule_check.specs.Item.{located};
-ghost use Rattle.capsule.specs.Parts.{IsPart};
+ghost use Rattle.capsule_items.specs.Items.{IsPart};
 ghost use Rattle.capsule_parts.specs.Parts.{imagePart, vendorCodePart, imageTold, vendorCodeTold};
 
 // Where the parts of an item lie in the capsule: the image from `image` up to `code`, the vendor code from there up to

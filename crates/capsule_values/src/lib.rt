@@ -1,5 +1,5 @@
 // The values shown of a payload item: its type GUID, image index and hardware instance. Every entry checks the whole
-// capsule first and has no condition: a refused one answers 0 or zeros, and `capsule::refusal` says which refusal it
+// capsule first and has no condition: a refused one answers 0 or zeros, and `capsule_items::refusal` says which refusal it
 // was. Items are numbered from 0 in list order, drivers first.
 use capsule_check::Item;
 ghost use mathlib.Core.Path.{_≡_};

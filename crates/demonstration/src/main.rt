@@ -11,10 +11,10 @@
 mod parts;
 mod steps;
 
-use session::Session;
 use steps::repaired;
 use steps::started;
 use steps::step;
+use update_session::Session;
 
 // No list has more stores.
 const ALL: usize = 2100;

@@ -1,6 +1,6 @@
 // Gathering the capsule, and its parts line by line.
-use capsule_check::Verdict;
 use gather::Gathered;
+use refusal_order::Verdict;
 use refusals::Refusal;
 
 // The address of the window's first byte, and of the first descriptor.
@@ -35,7 +35,7 @@ fn show_guid(g: [u8; 16]) {
 
 fn show_verdict(v: Verdict) {
     match v {
-        Verdict::Faultless => text(b"good"),
+        Verdict::Passed => text(b"good"),
         Verdict::Refused(why) => show_refusal(why),
     }
 }
@@ -44,8 +44,8 @@ fn show_verdict(v: Verdict) {
 fn show_lengths(s: &[u8], k: usize) {
     named(b"item ", k as u64);
     text(b": ");
-    show_verdict(capsule::refusal(s, k));
-    named(b", length ", capsule::item(s, k).len() as u64);
+    show_verdict(capsule_items::refusal(s, k));
+    named(b", length ", capsule_items::item(s, k).len() as u64);
     named(b", image ", capsule_parts::image(s, k).len() as u64);
     named(
         b", vendor code ",

@@ -2,11 +2,11 @@
 use crate::parts::named;
 use crate::parts::show_refusal;
 use crate::parts::text;
-use repair::Repaired;
-use session::Answer;
-use session::Session;
-use start_up::Started;
-use verdicts::Verdict;
+use refusal_order::Verdict;
+use update_repair::Repaired;
+use update_session::Answer;
+use update_session::Session;
+use update_start_up::Started;
 
 // The first n bytes.
 fn show_front(t: &[u8], n: usize) {
@@ -16,9 +16,9 @@ fn show_front(t: &[u8], n: usize) {
     text(&t[0..n]);
 }
 
-fn show_sheet(a: &[u8]) {
+fn show_report(a: &[u8]) {
     let mut lines = [0u8; 4096];
-    let n = sheet::sheet(a, &mut lines);
+    let n = report::report(a, &mut lines);
     show_front(&lines, n);
 }
 
@@ -38,7 +38,7 @@ fn show_session(s: Session) {
 // The next session, or why there is none.
 fn show_answer(v: Verdict, s: Session) {
     match v {
-        Verdict::Accepted => show_session(s),
+        Verdict::Passed => show_session(s),
         Verdict::Refused(why) => show_refusal(why),
     }
 }
@@ -57,13 +57,13 @@ fn show_started(r: Started) -> Session {
     }
 }
 
-// Start-up in that bank, and the bench sheet behind it.
+// Start-up in that bank, and the report behind it.
 pub fn started(a: &[u8], booted: u32) -> Session {
     named(b"start-up in bank ", booted as u64);
     text(b": ");
-    let session = show_started(start_up::start_up(a, booted));
+    let session = show_started(update_start_up::start_up(a, booted));
     text(b"\n");
-    show_sheet(a);
+    show_report(a);
     session
 }
 
@@ -154,7 +154,7 @@ fn show_repaired(r: Repaired) -> usize {
 pub fn repaired(a: &mut [u8]) {
     let mut list = [0u32; 4200];
     text(b"repair: ");
-    let all = show_repaired(repair::repair(a, &mut list));
+    let all = show_repaired(update_repair::repair(a, &mut list));
     apply(a, &list, all);
     show_stores(all, all);
 }

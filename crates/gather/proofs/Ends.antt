@@ -7,10 +7,10 @@ use Rattle.fields.specs.Number.{put}
 use Rattle.refusals.specs.Number.{numberOf}
 use Rattle.refusals.specs.declared.Refusal.{Refusal}
 use Rattle.refusals.specs.declared.Refusal.the-variants.{TotalZero, NoPlace}
-use Rattle.descriptors.specs.Reading.{Reading, refused, whole, reading}
-use Rattle.place.specs.Place.{placeFor}
-use Rattle.place.specs.declared.Place.the-variants.{At, Nowhere}
-use Rattle.blocks.specs.Blocks.{blocks}
+use Rattle.gather_descriptors.specs.Reading.{Reading, refused, whole, reading}
+use Rattle.gather_place.specs.Place.{placeFor}
+use Rattle.gather_place.specs.declared.Place.the-variants.{At, Nowhere}
+use Rattle.gather_blocks.specs.Blocks.{blocks}
 use Rattle.gather.specs.Gather.{refusal, place, copiedTo, finished, gathered}
 
 module _ (w : List ℕ) (B t : ℕ) (ds : List ℕ) where

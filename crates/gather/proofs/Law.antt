@@ -16,19 +16,19 @@ use Rattle.refusals.specs.Number.{numberOf}
 use Rattle.refusals.proofs.Number.{number-positive}
 use Rattle.refusals.specs.declared.Refusal.{Refusal}
 use Rattle.refusals.specs.declared.Refusal.the-variants.{DescriptorCount, TotalLength, TotalZero}
-use Rattle.descriptors.specs.Reading.{Reading, refused, whole, reading}
-use Rattle.descriptors.specs.Law.{Faultless}
-use Rattle.descriptors.specs.Scratch.{lengths}
-use Rattle.descriptors.proofs.Whole.{found, refused-early, whole-law, law-whole, fault-law, law-fault, loop-law}
-use Rattle.place.specs.Place.{placeFor}
-use Rattle.place.specs.Law.{LowestFree, NoneFree}
-use Rattle.place.specs.declared.Place.{Place}
-use Rattle.place.specs.declared.Place.the-variants.{At, Nowhere}
-use Rattle.place.proofs.Law.{place-law, no-place-law, law-place, law-no-place}
-use Rattle.blocks.specs.Blocks.{blocks}
+use Rattle.gather_descriptors.specs.Reading.{Reading, refused, whole, reading}
+use Rattle.gather_descriptors.specs.Law.{Faultless}
+use Rattle.gather_descriptors.specs.Scratch.{lengths}
+use Rattle.gather_descriptors.proofs.Whole.{found, refused-early, whole-law, law-whole, fault-law, law-fault, loop-law}
+use Rattle.gather_place.specs.Place.{placeFor}
+use Rattle.gather_place.specs.Law.{LowestFree, NoneFree}
+use Rattle.gather_place.specs.declared.Place.{Place}
+use Rattle.gather_place.specs.declared.Place.the-variants.{At, Nowhere}
+use Rattle.gather_place.proofs.Law.{place-law, no-place-law, law-place, law-no-place}
+use Rattle.gather_blocks.specs.Blocks.{blocks}
 use Rattle.gather.specs.Gather.{Answer, refusal, place, copiedTo, finished, gathered}
 use Rattle.gather.specs.Law.{Succeeded, WasEmpty, HadNoPlace, HadFault, ListRefusals}
-use Rattle.blocks.proofs.Copy.{blocks-length}
+use Rattle.gather_blocks.proofs.Copy.{blocks-length}
 use Rattle.gather.proofs.Ends.{total-zero, no-place, at-place, list-refused, list-whole}
 
 abbrev Outcome : Type 0

@@ -8,10 +8,10 @@ use mathlib.Core.Path.{_≡_}
 use lib.ListN.{length, getD}
 use Rattle.refusals.specs.Number.{numberOf}
 use Rattle.refusals.specs.declared.Refusal.{Refusal}
-use Rattle.descriptors.specs.Law.{Faultless, FirstFault, ComesBack}
-use Rattle.descriptors.specs.Scratch.{lengths}
-use Rattle.place.specs.Law.{LowestFree, NoneFree}
-use Rattle.blocks.specs.Blocks.{blocks}
+use Rattle.gather_descriptors.specs.Law.{Faultless, FirstFault, ComesBack}
+use Rattle.gather_descriptors.specs.Scratch.{lengths}
+use Rattle.gather_place.specs.Law.{LowestFree, NoneFree}
+use Rattle.gather_blocks.specs.Blocks.{blocks}
 use Rattle.gather.specs.Gather.{refusal, gathered}
 
 -- success: "the blocks, in list order, at the lowest place that shares no byte with a block or a descriptor read,

@@ -1,17 +1,17 @@
 // Gathering a capsule that lies scattered in a memory window (document 01, "The window and the scattered list").
 // The entry is `gather`: refusals 1 to 7.
-use blocks::copy_blocks;
-use descriptors::DESCRIPTOR_LIMIT;
-use descriptors::Read;
-use descriptors::read_list;
-use place::Place;
-use place::find_place;
+use gather_blocks::copy_blocks;
+use gather_descriptors::DESCRIPTOR_LIMIT;
+use gather_descriptors::Read;
+use gather_descriptors::read_list;
+use gather_place::Place;
+use gather_place::find_place;
 use refusals::Refusal;
 ghost use mathlib.Core.Path.{_≡_};
 ghost use Prim.Native.Nat.{_+_, _^_, _≤_};
 ghost use lib.ListN.{length, take};
-ghost use Rattle.descriptors.specs.Reading.{whole};
-ghost use Rattle.descriptors.specs.Scratch.{AllReadable, lengths};
+ghost use Rattle.gather_descriptors.specs.Reading.{whole};
+ghost use Rattle.gather_descriptors.specs.Scratch.{AllReadable, lengths};
 ghost use Rattle.gather.specs.Gather.{answerOf, finished, gathered};
 
 // The place's address and how many bytes stand there; or the refusal.

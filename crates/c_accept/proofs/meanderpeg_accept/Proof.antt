@@ -6,7 +6,7 @@ use Rattle.c_accept.proofs.meanderpeg_accept.Tie as tie
 returns : tie.Need-returns
 returns c =
     let b = c .before .before .before .before .before .before .before in
-    rw (← b .before .before .before .session-of .ensures, ← b .accept .ensures, c .give .ensures)
+    rw (← b .before .before .before .session-named .ensures, ← b .accept .ensures, c .give .ensures)
 
 pub meanderpeg-accept-spec : {M : Type 1} → statement M
 meanderpeg-accept-spec =

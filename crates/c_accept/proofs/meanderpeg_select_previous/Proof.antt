@@ -6,7 +6,7 @@ use Rattle.c_accept.proofs.meanderpeg_select_previous.Tie as tie
 returns : tie.Need-returns
 returns c =
     let b = c .before .before .before .before .before .before .before in
-    rw (← b .before .before .session-of .ensures, ← b .select-previous .ensures, c .give .ensures)
+    rw (← b .before .before .session-named .ensures, ← b .select-previous .ensures, c .give .ensures)
 
 pub meanderpeg-select-previous-spec : {M : Type 1} → statement M
 meanderpeg-select-previous-spec =

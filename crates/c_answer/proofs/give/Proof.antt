@@ -1,6 +1,6 @@
 -- `give` meets its contract. Assumes nothing.
 use borrow.Author.Needs.{needs}
-use Rattle.verdicts.specs.Decide.{reply}
+use Rattle.refusal_order.specs.Decide.{reply}
 use Rattle.c_answer.proofs.give.Statement.{statement}
 use Rattle.c_answer.proofs.give.Tie as tie
 

@@ -1,6 +1,6 @@
 -- `meanderpeg_soundness` meets its contract. Assumes nothing.
 use borrow.Author.Tests.{eq-eqb, ne-eqb}
-use Rattle.verdicts.specs.Decide.{decide, reply}
+use Rattle.refusal_order.specs.Decide.{decide, reply}
 use Rattle.c_area.specs.Soundness.{exportedSoundness}
 use borrow.Author.Needs.{needs}
 use Rattle.c_area.proofs.meanderpeg_soundness.Statement.{statement}

@@ -5,9 +5,9 @@ use mathlib.Core.Bool.{Bool, true, false, cond, _&&_}
 use mathlib.Core.List.{List}
 use borrow.Author.Tests.{not-true, not-false}
 use borrow.Author.Needs.{needs}
-use Rattle.record.specs.Layout.{copy0, copy1}
-use Rattle.record.specs.Rules.{soundCopy}
-use Rattle.copies.specs.Copies.{recordsEqual, soundAndEqual}
+use Rattle.record_layout.specs.Layout.{copy0, copy1}
+use Rattle.record_layout.specs.Rules.{soundCopy}
+use Rattle.record_copies.specs.Copies.{recordsEqual, soundAndEqual}
 use Rattle.c_area.specs.Soundness.{soundCopies}
 use Rattle.c_area.proofs.sound_copies.Statement.{statement}
 use Rattle.c_area.proofs.sound_copies.Tie as tie

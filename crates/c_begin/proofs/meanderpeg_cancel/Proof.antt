@@ -6,7 +6,7 @@ use Rattle.c_begin.proofs.meanderpeg_cancel.Tie as tie
 returns : tie.Need-returns
 returns c =
     let b = c .before .before .before .before .before .before .before in
-    rw (← b .before .before .session-of .ensures, ← b .cancel .ensures, c .give .ensures)
+    rw (← b .before .before .session-named .ensures, ← b .cancel .ensures, c .give .ensures)
 
 pub meanderpeg-cancel-spec : {M : Type 1} → statement M
 meanderpeg-cancel-spec =

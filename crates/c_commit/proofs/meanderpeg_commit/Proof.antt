@@ -6,7 +6,7 @@ use Rattle.c_commit.proofs.meanderpeg_commit.Tie as tie
 returns : tie.Need-returns
 returns c =
     let b = c .before .before .before .before .before .before .before in
-    rw (← b .before .before .before .session-of .ensures, ← b .commit .ensures, c .give .ensures)
+    rw (← b .before .before .before .session-named .ensures, ← b .commit .ensures, c .give .ensures)
 
 pub meanderpeg-commit-spec : {M : Type 1} → statement M
 meanderpeg-commit-spec =

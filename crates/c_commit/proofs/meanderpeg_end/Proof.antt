@@ -7,7 +7,7 @@ returns : tie.Need-returns
 returns c =
     let m = c .before .before .before .before .before in
     let b = m .before .before .before .before in
-    let n = b .before .before .session-of .ensures in
+    let n = b .before .before .session-named .ensures in
     (rw (← n, ← b .end .ensures, c .give .ensures), rw (← n, ← b .end .ensures) (m .give-missing .ensures))
 
 pub meanderpeg-end-spec : {M : Type 1} → statement M

@@ -1,7 +1,7 @@
 -- `meanderpeg_capsule_image_start` meets its contract. Assumes nothing.
 use borrow.Author.Needs.{needs}
 use mathlib.Core.Path.{ap}
-use Rattle.capsule.specs.Parts.{Range}
+use Rattle.capsule_items.specs.Items.{Range}
 use Rattle.c_image.proofs.meanderpeg_capsule_image_start.Statement.{statement}
 use Rattle.c_image.proofs.meanderpeg_capsule_image_start.Tie as tie
 

@@ -1,7 +1,7 @@
 -- `meanderpeg_capsule_vendor_code_start` meets its contract. Assumes nothing.
 use borrow.Author.Needs.{needs}
 use mathlib.Core.Path.{ap}
-use Rattle.capsule.specs.Parts.{Range}
+use Rattle.capsule_items.specs.Items.{Range}
 use Rattle.c_vendor_code.proofs.meanderpeg_capsule_vendor_code_start.Statement.{statement}
 use Rattle.c_vendor_code.proofs.meanderpeg_capsule_vendor_code_start.Tie as tie
 

@@ -10,7 +10,7 @@ use Rattle.capsule_body.specs.Body.{bodyRight}
 use Rattle.capsule_payloads.specs.Payload.{payloadsRight}
 use Rattle.refusals.specs.declared.Refusal.the-variants.{CapsulePayload}
 use Rattle.capsule_check.specs.Verdict.{unless, verdict}
-use Rattle.capsule_check.specs.declared.Verdict.the-variants.{Faultless}
+use Rattle.refusal_order.specs.declared.Verdict.the-variants.{Passed}
 use Rattle.capsule_check.proofs.check.Statement.{statement}
 use Rattle.capsule_check.proofs.check.Tie as tie
 
@@ -85,7 +85,7 @@ payloads-right-requires c κs =
 -- the verdict, up to the payloads
 up-to-15 : (c : tie.After-payloads-right)
     → verdict (c .before .before .before .before .before .before .before .before .before .before .before .before .before .args .s .now)
-    ≡ unless (c .payloads-right .result) CapsulePayload Faultless
+    ≡ unless (c .payloads-right .result) CapsulePayload Passed
 unfolding verdict
 up-to-15 c =
     let d = c .before in

@@ -12,7 +12,7 @@ use Rattle.capsule_body.specs.Body.{drivers, payloads, items, offset, itemEnd, 
 use Rattle.capsule_header.proofs.Header.{header-in}
 use Rattle.capsule_body.proofs.Body.{list-fits}
 use Rattle.capsule_check.specs.Item.{itemStartIn, itemEndIn}
-use Rattle.capsule_check.proofs.Faultless.{faultless, Sound}
+use Rattle.capsule_check.proofs.PassedCheck.{faultless, Sound}
 use Rattle.capsule_check.proofs.Places.{located-none, located-driver, located-payload, Inside, item-inside}
 use Rattle.capsule_check.proofs.pick.Statement.{statement}
 use Rattle.capsule_check.proofs.pick.Tie as tie

@@ -10,13 +10,13 @@ use Rattle.capsule_header.specs.Header.{body}
 use Rattle.capsule_body.specs.Body.{drivers, payloads}
 use Rattle.capsule_body.proofs.Body.{list-fits}
 use Rattle.capsule_check.specs.Verdict.{verdict}
-use Rattle.capsule_check.specs.declared.Verdict.the-variants.{Faultless}
-use Rattle.capsule_check.proofs.Faultless.{faultless, Sound}
+use Rattle.refusal_order.specs.declared.Verdict.the-variants.{Passed}
+use Rattle.capsule_check.proofs.PassedCheck.{faultless, Sound}
 use Rattle.capsule_counts.specs.Count.{driverCount, payloadCount}
 use Rattle.capsule_counts.proofs.counts_of.Statement.{statement}
 use Rattle.capsule_counts.proofs.counts_of.Tie as tie
 
-passed : (c : tie.After-enum-told) → verdict (c .before .before .before .before .args .s .now) ≡ Faultless
+passed : (c : tie.After-enum-told) → verdict (c .before .before .before .before .args .s .now) ≡ Passed
 passed c = sym (c .before .before .check .ensures) ∙ c .enum-told .given .1
 
 sound : (c : tie.After-enum-told) → Sound (c .before .before .before .before .args .s .now)

@@ -5,9 +5,9 @@ use Prim.Native.Nat.{suc, _+_, _-_, _≤_}
 use native.Mathlib.Omega.{arith}
 use borrow.Author.Needs.{needs}
 use lib.ListN.{length, take}
-use Rattle.place.specs.Place.{free, placeFor}
-use Rattle.place.specs.declared.Place.the-variants.{At}
-use Rattle.place.proofs.Search.{found-at}
+use Rattle.gather_place.specs.Place.{free, placeFor}
+use Rattle.gather_place.specs.declared.Place.the-variants.{At}
+use Rattle.gather_place.proofs.Search.{found-at}
 use Rattle.gather.proofs.Ends.{total-zero, no-place, at-place}
 use Rattle.gather.proofs.finish.Statement.{statement}
 use Rattle.gather.proofs.finish.Tie as tie

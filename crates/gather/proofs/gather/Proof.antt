@@ -5,9 +5,9 @@ use native.Mathlib.Omega.{arith}
 use borrow.Author.Needs.{needs}
 use lib.ListN.{length, take, replicate, length-take}
 use lib.Seq.{getD-take}
-use Rattle.descriptors.specs.Reading.{whole, reading}
-use Rattle.descriptors.specs.Scratch.{Readable}
-use Rattle.descriptors.proofs.Whole.{found, was-refused, was-whole}
+use Rattle.gather_descriptors.specs.Reading.{whole, reading}
+use Rattle.gather_descriptors.specs.Scratch.{Readable}
+use Rattle.gather_descriptors.proofs.Whole.{found, was-refused, was-whole}
 use Rattle.gather.proofs.Ends.{list-refused, list-whole}
 use Rattle.gather.proofs.gather.Statement.{statement}
 use Rattle.gather.proofs.gather.Tie as tie

@@ -1,2 +1,0 @@
--- What an accepted call tells. Assumes nothing.
-pub mod AcceptedCalls

@@ -1,1 +1,0 @@
-// What an accepted call tells (specs/AcceptedCalls.antt). There is no code here.

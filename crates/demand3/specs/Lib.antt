@@ -1,2 +1,0 @@
--- Demand 3 of the calls and entries themselves. Assumes nothing.
-pub mod Demand3

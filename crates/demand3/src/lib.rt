@@ -1,2 +1,0 @@
-// Demand 3 of start-up, repair and the six calls (document 01, "Power cuts"): the statement stands in
-// specs/Demand3.antt, its proof in proofs/. There is no code here.

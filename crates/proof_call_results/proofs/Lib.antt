@@ -1,0 +1,3 @@
+-- What an accepted call tells, for the proofs in the crates above.
+pub mod Tells
+pub mod Fits

@@ -1,0 +1,2 @@
+-- What an accepted call tells. Assumes nothing.
+pub mod CallResults

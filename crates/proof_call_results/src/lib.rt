@@ -1,0 +1,1 @@
+// What an accepted call tells (specs/CallResults.antt). There is no code here.

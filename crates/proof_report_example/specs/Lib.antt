@@ -1,0 +1,2 @@
+-- Document 01's example of a report. Assumes nothing.
+pub mod Example

@@ -1,0 +1,2 @@
+-- The report. Assumes nothing.
+pub mod Report

@@ -1,0 +1,2 @@
+-- The report's lines of a record. Assumes nothing.
+pub mod Lines

@@ -1,2 +1,0 @@
--- Laws of the sheet, for the proofs here and in the crates above.
-pub mod Whole

@@ -1,2 +1,0 @@
--- The bench sheet. Assumes nothing.
-pub mod Sheet
