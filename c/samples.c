@@ -1,6 +1,6 @@
-/* Document 01's samples 1 to 8 and 12 to 14, a capsule taken apart, and an update from Begin to Accept, through the functions of
- * include/meanderpeg.h. Prints what came out; c/run compares it with c/expected. The areas and their CRC are made here, by this
- * program's own code, so that nothing of the library checks itself. */
+/* The rules' samples 1 to 8 and 12 to 14, a capsule taken apart, and an update from Begin to Accept, through the
+ * functions of include/meanderpeg.h. Prints what came out; c/run compares it with c/expected. The areas and their CRC
+ * are made here, by this program's own code, so that nothing of the library checks itself. */
 #include "../include/meanderpeg.h"
 
 #include <inttypes.h>
@@ -35,13 +35,13 @@ static void fill_window(void) {
 static void gather(const char *name, size_t length) {
     static uint8_t before[LARGE];
     memcpy(before, window, LARGE);
-    uint64_t address = 99, total = 99;
-    uint32_t refusal = meanderpeg_gather(window, length, BASE, BASE, &address, &total);
-    if (refusal == MEANDERPEG_ACCEPTED) {
-        printf("%s: place 0x%" PRIX64 ", total %" PRIu64 "\n", name, address, total);
+    struct meanderpeg_gathered gathered = {99, 99};
+    uint32_t refusal = meanderpeg_gather(window, length, BASE, BASE, &gathered);
+    if (refusal == MEANDERPEG_OK) {
+        printf("%s: place 0x%" PRIX64 ", total %" PRIu64 "\n", name, gathered.address, gathered.total);
         return;
     }
-    int kept = address == 99 && total == 99 && memcmp(before, window, LARGE) == 0;
+    int kept = gathered.address == 99 && gathered.total == 99 && memcmp(before, window, LARGE) == 0;
     printf("%s: refusal %" PRIu32 ", %s\n", name, refusal, kept ? "nothing altered" : "ALTERED");
 }
 
@@ -120,40 +120,55 @@ static size_t make_capsule(uint8_t capsule[99]) {
     return 99;
 }
 
-static void show_part(const char *name, const uint8_t *capsule, size_t start, size_t length) {
-    printf("   %s at %zu: ", name, start);
-    print_bytes(capsule + start, length);
+typedef uint32_t MEANDERPEG_SYSV part_function(const uint8_t *, size_t, size_t, struct meanderpeg_part *);
+
+/* A part, or its refusal; a refusal that altered what was lent shows. */
+static void show_part(const char *name, part_function *function, const uint8_t *capsule, size_t length, size_t item) {
+    struct meanderpeg_part part = {99, 99};
+    uint32_t refusal = function(capsule, length, item, &part);
+    if (refusal == MEANDERPEG_OK) {
+        printf("   %s at %zu: ", name, part.start);
+        print_bytes(capsule + part.start, part.length);
+        return;
+    }
+    int kept = part.start == 99 && part.length == 99;
+    printf("   %s: refusal %" PRIu32 ", %s\n", name, refusal, kept ? "nothing altered" : "ALTERED");
 }
 
 static void show_item(const uint8_t *capsule, size_t length, size_t item) {
-    uint8_t guid[16];
-    memset(guid, 0xee, 16);
-    uint32_t refusal = meanderpeg_capsule_type_guid(capsule, length, item, guid);
-    printf("item %zu: refusal %" PRIu32 ", the same by its sister: %d\n", item, refusal,
-           refusal == meanderpeg_capsule_refusal(capsule, length, item));
-    show_part("item", capsule, meanderpeg_capsule_item_start(capsule, length, item),
-              meanderpeg_capsule_item_length(capsule, length, item));
-    show_part("image", capsule, meanderpeg_capsule_image_start(capsule, length, item),
-              meanderpeg_capsule_image_length(capsule, length, item));
-    show_part("vendor code", capsule, meanderpeg_capsule_vendor_code_start(capsule, length, item),
-              meanderpeg_capsule_vendor_code_length(capsule, length, item));
-    printf("   index %u, instance %" PRIu64 ", type GUID ", meanderpeg_capsule_image_index(capsule, length, item),
-           meanderpeg_capsule_hardware_instance(capsule, length, item));
-    print_bytes(guid, 16);
+    printf("item %zu\n", item);
+    show_part("item", meanderpeg_capsule_item, capsule, length, item);
+    show_part("image", meanderpeg_capsule_image, capsule, length, item);
+    show_part("vendor code", meanderpeg_capsule_vendor_code, capsule, length, item);
+    uint8_t guid[MEANDERPEG_GUID_BYTES], index = 0xee;
+    uint64_t instance = 0xee;
+    memset(guid, 0xee, sizeof guid);
+    uint32_t refusals[3] = {meanderpeg_capsule_image_index(capsule, length, item, &index),
+                            meanderpeg_capsule_hardware_instance(capsule, length, item, &instance),
+                            meanderpeg_capsule_type_guid(capsule, length, item, guid)};
+    printf("   refusals %" PRIu32 " %" PRIu32 " %" PRIu32 ", index %u, instance %" PRIu64 ", type GUID ", refusals[0],
+           refusals[1], refusals[2], index, instance);
+    print_bytes(guid, sizeof guid);
+}
+
+static void check(const char *name, const uint8_t *capsule, size_t length) {
+    struct meanderpeg_counts counts = {99, 99};
+    uint32_t refusal = meanderpeg_capsule_check(capsule, length, &counts);
+    printf("%s: %" PRIu32 ", drivers %zu, payloads %zu\n", name, refusal, counts.drivers, counts.payloads);
 }
 
 static void capsule_samples(void) {
     uint8_t capsule[99];
     memset(capsule, 0, 99);
-    printf("12, 27 bytes: %" PRIu32 "\n", meanderpeg_capsule_refusal(capsule, 27, 0));
+    check("12, 27 bytes", capsule, 27);
     capsule_header(capsule, 27, 28);
-    printf("12, HeaderSize 27: %" PRIu32 "\n", meanderpeg_capsule_refusal(capsule, 28, 0));
+    check("12, HeaderSize 27", capsule, 28);
     capsule_header(capsule, 28, 35);
     put(capsule + 28, 1, 4);
-    printf("12, body of 7: %" PRIu32 "\n", meanderpeg_capsule_refusal(capsule, 35, 0));
+    check("12, body of 7", capsule, 35);
+    show_part("item of it", meanderpeg_capsule_item, capsule, 35, 0);
     size_t length = make_capsule(capsule);
-    printf("capsule: %zu driver, %zu payload\n", meanderpeg_capsule_drivers(capsule, length),
-           meanderpeg_capsule_payloads(capsule, length));
+    check("capsule", capsule, length);
     for (size_t item = 0; item < 3; item++) show_item(capsule, length, item);
 }
 
@@ -164,10 +179,6 @@ enum { COPY = 8192, BANKS = 2, IMAGES = 2, ENTRY = 32 + 24 * BANKS, RECORD = 40 
 static uint8_t area[MEANDERPEG_AREA_BYTES];
 static uint32_t stores[MEANDERPEG_STORE_NUMBERS];
 static const uint8_t type_guids[IMAGES][16] = {"type GUID of A.", "type GUID of B."};
-
-struct session {
-    uint32_t kind, bank, set;
-};
 
 static uint32_t crc32(const uint8_t *bytes, size_t length) {
     uint32_t crc = 0xffffffff;
@@ -209,157 +220,191 @@ static void apply(size_t n) {
 static uint32_t soundness(void) {
     uint32_t copies = 99;
     uint32_t refusal = meanderpeg_soundness(area, sizeof area, &copies);
-    return refusal == MEANDERPEG_ACCEPTED ? copies : 100 + refusal;
+    return refusal == MEANDERPEG_OK ? copies : 100 + refusal;
 }
+
+typedef struct meanderpeg_session session;
+typedef struct meanderpeg_answer answer;
 
 /* Shows what a call answered. */
-static void show(const char *name, uint32_t refusal, struct session s, size_t pairs) {
-    printf("%s: %" PRIu32 ", session %" PRIu32 " %" PRIu32 " %" PRIu32 ", pairs %zu\n", name, refusal, s.kind, s.bank,
-           s.set, pairs);
+static void show(const char *name, answer a) {
+    printf("%s: %" PRIu32 ", session %" PRIu32 " %" PRIu32 " %" PRIu32 ", pairs %zu", name, a.refusal, a.session.kind,
+           a.session.bank, a.session.set, a.pairs);
+    if (a.refusal != MEANDERPEG_OK)
+        printf(", told %" PRIu32 " %" PRIu32 ": %s", a.told[0], a.told[1], meanderpeg_refusal_text(a.refusal));
+    printf("\n");
 }
 
-/* The same, and does the stores. */
-static void done(const char *name, uint32_t refusal, struct session s, size_t pairs) {
-    show(name, refusal, s, pairs);
-    if (refusal != MEANDERPEG_ACCEPTED) return;
-    apply(pairs);
+/* The same, does the stores, and gives the next session. */
+static session done(const char *name, answer a) {
+    show(name, a);
+    if (a.refusal != MEANDERPEG_OK) return a.session;
+    apply(a.pairs);
     if (soundness() != 7) printf("COPIES NOT SOUND AND EQUAL\n");
+    return a.session;
 }
 
-static void show_sheet(void) {
-    uint8_t text[MEANDERPEG_SHEET_BYTES];
-    size_t length = meanderpeg_sheet(area, sizeof area, text, sizeof text);
+static void show_report(void) {
+    uint8_t text[MEANDERPEG_REPORT_BYTES] = {0};
+    size_t length = meanderpeg_report(area, sizeof area, text, sizeof text);
     fwrite(text, 1, length, stdout);
 }
 
-static void start_up(struct session *s, uint32_t booted) {
-    uint32_t kind = 99;
-    uint32_t refusal = meanderpeg_start_up(area, sizeof area, booted, &kind);
-    printf("start-up from bank %" PRIu32 ": %" PRIu32 ", kind %" PRIu32 "\n", booted, refusal, kind);
-    if (refusal == MEANDERPEG_ACCEPTED) *s = (struct session){kind, 0, 0};
+static session start_up(uint32_t booted) {
+    printf("bank %" PRIu32 ", ", booted);
+    answer a = meanderpeg_start_up(area, sizeof area, booted);
+    show("start-up", a);
+    return a.session;
 }
 
-static void begin(struct session *s, size_t numbers) {
-    size_t pairs = 99;
-    uint32_t refusal =
-        meanderpeg_begin(&s->kind, &s->bank, &s->set, area, sizeof area, stores, numbers, &pairs);
-    done("begin", refusal, *s, pairs);
+static session begin(session s, size_t numbers) {
+    return done("begin", meanderpeg_begin(s, area, sizeof area, stores, numbers));
 }
 
-/* Begin, with the power cut after n of its stores. */
-static void begin_cut(struct session *s, size_t n) {
-    size_t pairs = 99;
-    uint32_t refusal = meanderpeg_begin(&s->kind, &s->bank, &s->set, area, sizeof area, stores,
-                                        MEANDERPEG_STORE_NUMBERS, &pairs);
-    show("begin, cut", refusal, *s, pairs);
+/* Select previous, whose stores fail after n: the caller is told no next session. */
+static void select_previous_fails(session s, size_t n) {
+    show("select previous, failing",
+         meanderpeg_select_previous(s, area, sizeof area, stores, MEANDERPEG_STORE_NUMBERS));
     apply(n);
 }
 
-static void commit(struct session *s, int image, uint32_t request) {
-    size_t pairs = 99;
-    uint8_t none[16] = {0};
+/* Begin, with the power cut after n of its stores. */
+static void begin_cut(session s, size_t n) {
+    show("begin, cut", meanderpeg_begin(s, area, sizeof area, stores, MEANDERPEG_STORE_NUMBERS));
+    apply(n);
+}
+
+static session commit(session s, int image, uint32_t request) {
+    uint8_t none[MEANDERPEG_GUID_BYTES] = {0};
     const uint8_t *guid = image < IMAGES ? type_guids[image] : none;
-    uint32_t refusal = meanderpeg_commit(&s->kind, &s->bank, &s->set, area, sizeof area, guid, request, stores,
-                                         MEANDERPEG_STORE_NUMBERS, &pairs);
-    done("commit", refusal, *s, pairs);
+    return done("commit",
+                meanderpeg_commit(s, area, sizeof area, guid, request, stores, MEANDERPEG_STORE_NUMBERS));
 }
 
-static void end(struct session *s) {
-    size_t pairs = 99;
-    uint32_t missing = 99;
-    uint32_t refusal = meanderpeg_end(&s->kind, &s->bank, &s->set, area, sizeof area, stores,
-                                      MEANDERPEG_STORE_NUMBERS, &pairs, &missing);
-    printf("missing %" PRIu32 ", ", missing);
-    done("end", refusal, *s, pairs);
+static session end(session s) {
+    return done("end", meanderpeg_end(s, area, sizeof area, stores, MEANDERPEG_STORE_NUMBERS));
 }
 
-static void cancel(struct session *s) {
-    size_t pairs = 99;
-    uint32_t refusal = meanderpeg_cancel(&s->kind, &s->bank, &s->set, area, sizeof area, stores,
-                                         MEANDERPEG_STORE_NUMBERS, &pairs);
-    done("cancel", refusal, *s, pairs);
+static session cancel(session s) {
+    return done("cancel", meanderpeg_cancel(s, area, sizeof area, stores, MEANDERPEG_STORE_NUMBERS));
 }
 
-static void accept(struct session *s, int image) {
-    size_t pairs = 99;
-    uint32_t refusal = meanderpeg_accept(&s->kind, &s->bank, &s->set, area, sizeof area, type_guids[image], stores,
-                                         MEANDERPEG_STORE_NUMBERS, &pairs);
-    done("accept", refusal, *s, pairs);
+static session accept(session s, int image) {
+    return done("accept", meanderpeg_accept(s, area, sizeof area, type_guids[image], stores, MEANDERPEG_STORE_NUMBERS));
 }
 
-static void select_previous(struct session *s) {
-    size_t pairs = 99;
-    uint32_t refusal = meanderpeg_select_previous(&s->kind, &s->bank, &s->set, area, sizeof area, stores,
-                                                  MEANDERPEG_STORE_NUMBERS, &pairs);
-    done("select previous", refusal, *s, pairs);
+static session select_previous(session s) {
+    return done("select previous", meanderpeg_select_previous(s, area, sizeof area, stores, MEANDERPEG_STORE_NUMBERS));
 }
 
 static void repair(void) {
-    size_t pairs = 99;
     printf("copies %" PRIu32 ", ", soundness());
-    uint32_t refusal =
-        meanderpeg_repair(area, sizeof area, stores, MEANDERPEG_STORE_NUMBERS, &pairs);
-    printf("repair: %" PRIu32 ", pairs %zu, ", refusal, pairs);
-    if (refusal == MEANDERPEG_ACCEPTED) apply(pairs);
-    printf("copies %" PRIu32 "\n", soundness());
+    (void)done("repair", meanderpeg_repair(area, sizeof area, stores, MEANDERPEG_STORE_NUMBERS));
 }
 
 static void record_samples(void) {
-    struct session s = {0, 0, 0};
     make_area();
+    session s = {MEANDERPEG_REGULAR, 0, 0};
     printf("13, 4,199 numbers: ");
-    begin(&s, 4199);
+    s = begin(s, 4199);
     printf("13, 4,200 numbers: ");
-    begin(&s, 4200);
+    s = begin(s, 4200);
     make_area();
     printf("14, ");
-    start_up(&s, 2);
-    uint32_t kind = 99;
-    printf("area of 16,383: %" PRIu32 ", kind %" PRIu32 "\n",
-           meanderpeg_start_up(area, sizeof area - 1, 0, &kind), kind);
-    struct session none = {9, 8, 7};
+    (void)start_up(2);
+    show("area of 16,383: start-up", meanderpeg_start_up(area, sizeof area - 1, 0));
+    session unknown = {9, 8, 7}, none = {0, 0, 0};
+    printf("unknown session: ");
+    (void)begin(unknown, 4200);
     printf("no session: ");
-    begin(&none, 4200);
+    (void)begin(none, 4200);
 }
 
 /* From Begin to Accept: A is committed as accepted, B not, so that the new bank starts as Trial. */
 static void update(void) {
-    struct session s;
     make_area();
-    start_up(&s, 0);
-    begin(&s, MEANDERPEG_STORE_NUMBERS);
-    show_sheet();
-    commit(&s, 0, 0);
-    commit(&s, IMAGES, 0);
-    end(&s);
-    commit(&s, 1, 1);
-    end(&s);
-    start_up(&s, 0);
-    start_up(&s, 1);
-    show_sheet();
-    accept(&s, 0);
-    accept(&s, 1);
-    show_sheet();
+    session s = start_up(0);
+    s = begin(s, MEANDERPEG_STORE_NUMBERS);
+    show_report();
+    s = commit(s, 0, MEANDERPEG_IMAGE_ACCEPTED);
+    s = commit(s, IMAGES, MEANDERPEG_IMAGE_ACCEPTED);
+    s = end(s);
+    s = commit(s, 1, MEANDERPEG_IMAGE_UNACCEPTED);
+    s = end(s);
+    (void)start_up(0);
+    s = start_up(1);
+    show_report();
+    s = accept(s, 0);
+    s = accept(s, 1);
+    show_report();
 }
 
 /* The other ways: an update cancelled, one that falls back to the previous bank, a change that is cut and repaired. */
 static void other_ways(void) {
-    struct session s;
     make_area();
-    start_up(&s, 0);
-    begin(&s, MEANDERPEG_STORE_NUMBERS);
-    cancel(&s);
-    begin(&s, MEANDERPEG_STORE_NUMBERS);
-    commit(&s, 0, 1);
-    commit(&s, 1, 1);
-    end(&s);
-    start_up(&s, 0);
-    select_previous(&s);
-    start_up(&s, 0);
-    begin_cut(&s, 1);
+    session s = start_up(0);
+    s = begin(s, MEANDERPEG_STORE_NUMBERS);
+    s = cancel(s);
+    s = begin(s, MEANDERPEG_STORE_NUMBERS);
+    s = commit(s, 0, MEANDERPEG_IMAGE_UNACCEPTED);
+    s = commit(s, 1, MEANDERPEG_IMAGE_UNACCEPTED);
+    s = end(s);
+    s = start_up(0);
+    s = select_previous(s);
+    s = start_up(0);
+    begin_cut(s, 1);
+    s = start_up(0);
+    s = begin(s, MEANDERPEG_STORE_NUMBERS);
     repair();
     repair();
-    start_up(&s, 0);
+    s = start_up(0);
+    s = begin(s, MEANDERPEG_STORE_NUMBERS);
+}
+
+/* A store fails and there is no restart. The session is lost: made again with it, the call is refused by 22, and after
+ * a repair it would exchange the banks back. Repair and start-up find that the running bank is the active one. */
+static void failed_store(void) {
+    make_area();
+    session s = start_up(1);
+    select_previous_fails(s, 5);
+    s = select_previous(s);
+    repair();
+    show("the lost session: select previous",
+         meanderpeg_select_previous(s, area, sizeof area, stores, MEANDERPEG_STORE_NUMBERS));
+    s = start_up(1);
+    s = select_previous(s);
+    show_report();
+}
+
+/* A Regular session from before End is not seen to be old: Begin takes the bank that runs. An old Staging one is.
+ * With a refusal bank and set come back as they were given. */
+static void old_sessions(void) {
+    make_area();
+    session regular = start_up(0);
+    session staging = begin(regular, MEANDERPEG_STORE_NUMBERS);
+    staging = commit(staging, 0, MEANDERPEG_IMAGE_ACCEPTED);
+    staging = commit(staging, 1, MEANDERPEG_IMAGE_ACCEPTED);
+    (void)end(staging);
+    show("old Staging: begin", meanderpeg_begin(staging, area, sizeof area, stores, MEANDERPEG_STORE_NUMBERS));
+    show("old Regular: begin", meanderpeg_begin(regular, area, sizeof area, stores, MEANDERPEG_STORE_NUMBERS));
+    session spoilt = {MEANDERPEG_RESTART, 8, 7};
+    show("Restart: begin", meanderpeg_begin(spoilt, area, sizeof area, stores, MEANDERPEG_STORE_NUMBERS));
+}
+
+/* The stores of a commit are forgotten: nothing notices, and the image is left unaccepted. Those of Begin: 24. */
+static void forgotten_stores(void) {
+    make_area();
+    session s = start_up(0);
+    answer a = meanderpeg_begin(s, area, sizeof area, stores, MEANDERPEG_STORE_NUMBERS);
+    show("begin, forgotten", a);
+    (void)commit(a.session, 0, MEANDERPEG_IMAGE_ACCEPTED);
+    s = begin(s, MEANDERPEG_STORE_NUMBERS);
+    s = commit(s, 0, MEANDERPEG_IMAGE_ACCEPTED);
+    a = meanderpeg_commit(s, area, sizeof area, type_guids[1], MEANDERPEG_IMAGE_ACCEPTED, stores,
+                          MEANDERPEG_STORE_NUMBERS);
+    show("commit, forgotten", a);
+    s = end(a.session);
+    show_report();
 }
 
 int main(void) {
@@ -370,5 +415,11 @@ int main(void) {
     update();
     printf("-- other ways\n");
     other_ways();
+    printf("-- a store that fails\n");
+    failed_store();
+    printf("-- old sessions\n");
+    old_sessions();
+    printf("-- forgotten stores\n");
+    forgotten_stores();
     return 0;
 }

@@ -1,177 +1,428 @@
-/* Meanderpeg for C. Link target/staticlib/libmeanderpeg.a, which `c/library` writes.
+/* Meanderpeg: gathers a UEFI capsule that lies scattered in memory, checks it and hands out its parts, and keeps the
+ * Arm A/B record (DEN0118, metadata version 2) that says which bank of firmware images is started.
  *
- * What each function answers, and every byte and number lent as it is at return, is proved for all inputs (crates/c_*). By the
- * language, and not by a clause: every function ends, none keeps memory or allocates, and none touches anything but what is lent
- * to it. This header is written by hand; c/run calls every function in it. Words in quotes are those of document 01.
+ * Link target/staticlib/libmeanderpeg.a, which `c/library` writes. What each function answers, and every byte behind
+ * its pointers at return, is proved for all inputs that keep to WHAT THE CALLER SEES TO (crates/c_*); docs/RULES.md
+ * has the rules by number. The library looks at form alone: it verifies no signature, writes no image and touches no
+ * device. It has no state, allocates nothing, and every call ends. Calls on different memory may run at the same time.
  *
- * What a caller must see to, since no proof reaches it:
- * - Every pointer is there and not null, also where its number does not count and where a length is 0. A pointer and the length
- *   behind it describe memory that is there and has been written once: `length` bytes, or `length` numbers of 32 bits for stores.
- * - What is lent for writing (a pointer without const) shares no byte with anything else lent to the same call, and nobody else
- *   writes what is lent meanwhile. Numbers are aligned as their types ask. A capsule stays as it is from the first call on it until
- *   its parts have been used.
- * - Each store listed is done as one aligned write of 32 bits that lands whole, and before the next one starts; all are done before
- *   the next session is used. Byte by byte, or through a cache that writes back in another order, a power cut can leave anything.
- * - There is enough stack. No proof bounds it. Gathering needs most: an array of 2 KiB, and the reader of the list calls itself once a
- *   descriptor, so 256 deep, some 112 bytes each in this archive: 32 KiB are enough there. All others need less.
  *
- * Every function that returns a uint32_t returns 0 for accepted, else a number of `enum meanderpeg_refusal`; a refusal alters nothing
- * that was lent, but that End tells with 27 how many images are missing. The archive is for x86-64. */
+ * AN UPDATE, from one start of the machine to the next
+ *
+ *   1. After every start: meanderpeg_repair and do its stores (mostly there are none), then meanderpeg_start_up with
+ *      the number of the bank that the boot loader started. It gives the session, and an update begins in Regular.
+ *   2. meanderpeg_begin, and do its stores. The answer's session.bank is now the update bank, marked invalid. Only
+ *      when the last of these stores has landed may a byte of that bank be overwritten (DEN0118, A3.1.1): else a power
+ *      cut leaves half-written images in a bank that the record calls good.
+ *   3. For each image of the record: write it into the update bank and, only when its last byte has landed for good
+ *      (no cache, no queue still holds one), meanderpeg_commit with its type GUID, and do the stores. Of a payload,
+ *      meanderpeg_capsule_image and meanderpeg_capsule_type_guid have the two. An image that stays the same is copied
+ *      from the active bank and committed too: meanderpeg_end wants all of them.
+ *   4. meanderpeg_end, and do its stores. The session is Restart: restart the machine.
+ *   5. The boot loader starts the new bank. If an image was committed as unaccepted, start-up gives Trial:
+ *      meanderpeg_accept each such image once it has shown that it works, or meanderpeg_select_previous and restart.
+ *      If the boot loader started another bank instead, start-up gives Fallback: meanderpeg_select_previous and
+ *      restart makes the previous bank the active one, and until then no update can begin. Where that gives 25 (the
+ *      previous bank is not accepted), where a third bank runs, or after a failed store of meanderpeg_end, restart to
+ *      try the active bank again.
+ *
+ * The boot loader reads the record as start-up does: copy 0 if it is sound, else copy 1 (The area, below). One that
+ * tests less than meanderpeg_soundness must still ask for version 2, not for the CRC alone: a copy that is being
+ * written has version 0. It starts no invalid bank.
+ *
+ *
+ * SESSIONS
+ *
+ * A session is a struct of three numbers in RAM. meanderpeg_start_up gives it after each start of the machine, and it
+ * is never stored: an update that a restart finds in Staging begins anew at step 2. Keep one: after an accepted call
+ * (refusal 0), once all its stores are done, overwrite it with the answer's; after a refusal it stays as it is. Never
+ * keep a copy or put one together by hand: the library cannot see that a session is old. Only Staging is compared with
+ * the record (24); with the Regular session from before meanderpeg_end, meanderpeg_begin is accepted, and of two banks
+ * the update bank is the one that runs. `booted` is believed too.
+ *
+ * Best is one function of your own that every answer goes through: it does the stores, then overwrites the session, as
+ * `done` in README.md does (a repair's answer has no session: the one at hand stays). Later calls mostly do not notice
+ * that stores were forgotten, since each works from the area as it is: after those of a meanderpeg_commit,
+ * meanderpeg_end is accepted and leaves unaccepted an image that was committed as accepted.
+ *
+ *
+ * STORES
+ *
+ * No function writes the area. Repair and the calls list stores in `stores`: for i from 0 to pairs - 1, the 32-bit
+ * word stores[2 * i + 1] goes, little-endian, into the four bytes of the area at offset stores[2 * i], a multiple of
+ * 4. `pairs` counts after an accepted call alone, and may be 0 there; numbers past the list stay as they were, and
+ * after a refusal all do. `stores_length` counts numbers, not bytes: `uint32_t stores[MEANDERPEG_STORE_NUMBERS]` goes
+ * with MEANDERPEG_STORE_NUMBERS, not with sizeof stores.
+ *   - The area starts at a multiple of 4 of the storage, and no block of the device has bytes of both copies (DEN0118,
+ *     A3.2.1).
+ *   - Each store is one aligned write of 32 bits that lands whole: a power cut leaves the old word or the new one.
+ *     FRAM, MRAM and battery-backed RAM take such writes; flash that erases a block first does not by itself.
+ *   - Stores are done in list order, and each has landed for good before the next is started. Byte by byte, or through
+ *     a cache that writes back in another order, a power cut can leave a record that is neither old nor new.
+ *   - All are done before the next session is used. If one fails, or power is cut, the session is lost: start again at
+ *     step 1. Start-up then reads the record whole, as it was before the call or as it is after it.
+ * The area that a call is given is the storage itself, if plain loads can read it (of any width, also unaligned and
+ * repeated), or a copy of it in RAM: then each store is done in the storage first, then in the copy, and after one that
+ * failed the copy is read anew before step 1.
+ *
+ *
+ * REFUSALS
+ *
+ * Every function but meanderpeg_report gives 0, or the number of a refusal, and with a refusal it has altered nothing
+ * behind its pointers. meanderpeg_refusal_text has it in words. After 22 (the copies are not both sound and equal): if
+ * every store of every accepted call so far has been done, the session still holds: meanderpeg_repair, do its stores,
+ * call again. If one was not, the session may be older than the record (meanderpeg_select_previous would exchange the
+ * banks back): start again at step 1. After 21 there is no record left to go on from: the platform has to write one
+ * anew, as its maker wrote the first (The area, below).
+ *
+ *
+ * WHAT THE CALLER SEES TO, since no proof reaches it
+ *
+ *   - No pointer is null, not even one whose length is 0. A pointer and the length behind it are memory that is there
+ *     and has been written, also where the call is to write it: `struct meanderpeg_part part = {0};`. A length counts
+ *     bytes, for stores numbers of 32 bits.
+ *   - What is passed for writing (a pointer without const) shares no byte with anything else passed to the same call.
+ *     Nobody else, no device either, writes what is passed before the call returns. Numbers and structs are aligned as
+ *     C asks.
+ *   - A capsule stays as it was checked until its parts have been used: check a copy that nobody else can write. It and
+ *     its parts lie at any alignment: read numbers byte by byte or by memcpy, and cast no pointer.
+ *   - Each image is authenticated before meanderpeg_commit, at the latest before meanderpeg_end.
+ *   - In firmware and kernels: masking stops neither NMI nor machine check, so that where the archive uses the red zone
+ *     their handlers need a stack of their own (IST); where it uses xmm0 and xmm1, a kernel saves them around a call.
+ *
+ *
+ * THE MACHINE (`c/measure` prints all of this from the archive)
+ *
+ *   - x86-64 code in ELF objects, position-independent, for 64-bit pointers and the System V calling convention. Where
+ *     a compiler's own convention is another (UEFI and Windows targets), the declarations below ask for this one.
+ *   - It asks for memset, by the same convention, and for nothing else; it has no data and no bss.
+ *   - It uses the red zone: up to 56 bytes below the stack pointer hold values during a call. Where interrupts come
+ *     in on the same stack (firmware, kernels: what is compiled with -mno-red-zone), mask them during a call (in UEFI
+ *     RaiseTPL to TPL_HIGH_LEVEL) or give their handlers a stack of their own (IST).
+ *   - It uses xmm0 and xmm1, so SSE must be enabled, and an interrupt handler that uses them must save them. No x87,
+ *     no AVX.
+ *   - Bytes of stack that a call uses at most; what memset uses comes on top:
+ *
+ *       meanderpeg_gather                     26,880    meanderpeg_report                        704
+ *       meanderpeg_capsule_check                  64    meanderpeg_start_up                      192
+ *       meanderpeg_capsule_item                  128    meanderpeg_repair                        192
+ *       meanderpeg_capsule_image                 128    meanderpeg_begin                         320
+ *       meanderpeg_capsule_vendor_code           128    meanderpeg_commit                        384
+ *       meanderpeg_capsule_type_guid             192    meanderpeg_end                           384
+ *       meanderpeg_capsule_image_index           192    meanderpeg_cancel                        256
+ *       meanderpeg_capsule_hardware_instance     192    meanderpeg_accept                        384
+ *       meanderpeg_soundness                     192    meanderpeg_select_previous               384
+ */
 #ifndef MEANDERPEG_H
 #define MEANDERPEG_H
 
 #include <stddef.h>
 #include <stdint.h>
 
+#define MEANDERPEG_VERSION_MAJOR 0
+#define MEANDERPEG_VERSION_MINOR 2
+#define MEANDERPEG_VERSION_PATCH 0
+#define MEANDERPEG_VERSION "0.2.0"
+
+/* ---- Whether the archive fits, and what this compiler knows ---- */
+
+#if !defined(__x86_64__) && !defined(_M_X64)
+#error "meanderpeg: libmeanderpeg.a has code for x86-64 alone"
+#endif
+#if defined(__ILP32__) || defined(_ILP32)
+#error "meanderpeg: libmeanderpeg.a wants 64-bit pointers; this is x86-64 with 32-bit ones (x32)"
+#endif
+
+#if defined(__GNUC__) || defined(__clang__)
+#define MEANDERPEG_SYSV __attribute__((sysv_abi))
+#define MEANDERPEG_CHECKED __attribute__((warn_unused_result, nonnull))
+#elif defined(_WIN32) || defined(_MSC_VER)
+#error "meanderpeg: libmeanderpeg.a has System V calls, and this compiler has no sysv_abi; gcc and clang have"
+#else
+#define MEANDERPEG_SYSV
+#define MEANDERPEG_CHECKED
+#endif
+#define MEANDERPEG_FUNCTION MEANDERPEG_SYSV MEANDERPEG_CHECKED
+
+/* Of parameters, counted from 1: READS(n) and WRITES(n), n points to as many as n + 1 says; SETS(n), to one. By these
+ * gcc warns of a length above what is there, and of what was never written. */
+#ifdef __has_attribute
+#if __has_attribute(access)
+#define MEANDERPEG_READS(n) __attribute__((access(read_only, n, n + 1)))
+#define MEANDERPEG_WRITES(n) __attribute__((access(read_write, n, n + 1)))
+#define MEANDERPEG_SETS(n) __attribute__((access(read_write, n)))
+#endif
+#endif
+#ifndef MEANDERPEG_READS
+#define MEANDERPEG_READS(n)
+#define MEANDERPEG_WRITES(n)
+#define MEANDERPEG_SETS(n)
+#endif
+
 #ifdef __cplusplus
 extern "C" {
 #endif
 
-/* "When the bench says no" */
+/* ---- Numbers ---- */
+
 enum meanderpeg_refusal {
-    MEANDERPEG_ACCEPTED = 0,
-    /* memory */
-    MEANDERPEG_WINDOW_END = 1,         /* "B + N above 2^64" */
-    MEANDERPEG_DESCRIPTOR_COUNT = 2,   /* "257th descriptor" */
-    MEANDERPEG_DESCRIPTOR_ADDRESS = 3, /* no multiple of 8, or not all 16 bytes in the window */
-    MEANDERPEG_BLOCK_OUTSIDE = 4,      /* a block not wholly in the window */
-    MEANDERPEG_TOTAL_LENGTH = 5,       /* lengths above 16,777,216 in all */
-    MEANDERPEG_TOTAL_ZERO = 6,         /* "total 0" */
-    MEANDERPEG_NO_PLACE = 7,           /* "no free place" */
-    /* capsules */
-    MEANDERPEG_CAPSULE_SHORT = 10,   /* "capsule below 28 bytes" */
-    MEANDERPEG_CAPSULE_SIZES = 11,   /* "sizes" */
-    MEANDERPEG_CAPSULE_FLAGS = 12,   /* "flags" */
-    MEANDERPEG_CAPSULE_GUID = 13,    /* "GUID" */
-    MEANDERPEG_CAPSULE_BODY = 14,    /* "body below 8 bytes, its version, count or offsets" */
-    MEANDERPEG_CAPSULE_PAYLOAD = 15, /* "a payload at fault" */
-    MEANDERPEG_NO_ITEM = 16,         /* "no item of that number" */
-    /* areas; the order of the tests is 20, 23, 21, 22, then 24 to 28 */
-    MEANDERPEG_AREA_LENGTH = 20,    /* "area not 16,384 bytes" */
-    MEANDERPEG_NO_SOUND_COPY = 21,  /* "no sound copy" */
-    MEANDERPEG_COPIES_DIFFER = 22,  /* "copies not both sound and equal, start-up and repair aside" */
-    MEANDERPEG_STORE_SLICE = 23,    /* "store slice too short" */
-    MEANDERPEG_STAGING_FAULT = 24,  /* "Staging whose bank isn't the update bank or isn't 255, or a set bit at or past the image count" */
-    MEANDERPEG_SESSION_STATE = 25,  /* "session not among those named for the call, or Select previous whose previous bank isn't 252" */
-    MEANDERPEG_NO_IMAGE = 26,       /* "GUID in no entry" */
-    MEANDERPEG_IMAGES_MISSING = 27, /* "images missing" */
-    MEANDERPEG_BOOTED_BANK = 28     /* "booted bank at or past the bank count" */
+    MEANDERPEG_OK = 0,
+    /* gathering: 1 first; of each descriptor 2, 3, 4, 5 in this order, the first fault in the list; then 6, then 7 */
+    MEANDERPEG_WINDOW_END = 1,         /* the window's end, base + length, lies above 2^64 */
+    MEANDERPEG_DESCRIPTOR_COUNT = 2,   /* a 257th descriptor; a list that runs in a circle ends here (or with 5) */
+    MEANDERPEG_DESCRIPTOR_ADDRESS = 3, /* a descriptor's address is no multiple of 8, or it leaves the window */
+    MEANDERPEG_BLOCK_OUTSIDE = 4,      /* a block is not wholly in the window */
+    MEANDERPEG_TOTAL_LENGTH = 5,       /* the blocks have more than 16,777,216 bytes in all */
+    MEANDERPEG_TOTAL_ZERO = 6,         /* there is no block */
+    MEANDERPEG_NO_PLACE = 7,           /* nowhere in the window are so many bytes in a row free */
+    /* capsules: the lowest that applies */
+    MEANDERPEG_CAPSULE_SHORT = 10,   /* below 28 bytes */
+    MEANDERPEG_CAPSULE_SIZES = 11,   /* HeaderSize below 28 or above CapsuleImageSize, or that is not the length */
+    MEANDERPEG_CAPSULE_FLAGS = 12,   /* InitiateReset (0x40000) without PersistAcrossReset (0x10000) */
+    MEANDERPEG_CAPSULE_GUID = 13,    /* not the firmware management capsule, 6dcbd5ed-e82d-4c44-bda1-7194199ad92a */
+    MEANDERPEG_CAPSULE_BODY = 14,    /* body below 8 bytes, its version not 1, above 64 items, or offsets at fault */
+    MEANDERPEG_CAPSULE_PAYLOAD = 15, /* a payload's version is not 1 or 2, or its parts do not fit in it */
+    MEANDERPEG_NO_ITEM = 16,         /* the capsule is faultless and has no item of that number */
+    /* areas: 20, 23, 21, 22, then 24 to 28, the first that applies */
+    MEANDERPEG_AREA_LENGTH = 20,         /* not 16,384 bytes */
+    MEANDERPEG_NO_SOUND_COPY = 21,       /* neither copy of the record is sound */
+    MEANDERPEG_NOT_SOUND_AND_EQUAL = 22, /* the two copies are not both sound and equal: see REFUSALS */
+    MEANDERPEG_STORE_SLICE = 23,         /* fewer than 4,200 numbers for stores */
+    MEANDERPEG_STAGING_FAULT = 24,       /* a Staging session that does not fit the record: its bank is not the update
+                                            bank or not invalid, or its set has an image that is not there */
+    MEANDERPEG_SESSION_STATE = 25,       /* not a session for this call; or the previous bank is not accepted */
+    MEANDERPEG_NO_IMAGE = 26,            /* the record has no image of that type GUID */
+    MEANDERPEG_IMAGES_MISSING = 27,      /* images not yet committed; told[0] has how many */
+    MEANDERPEG_BOOTED_BANK = 28          /* the record has no bank of that number */
 };
 
-/* "Five session states: Regular, Staging, Trial, Fallback, Restart." A kind above 4 names none: a call refuses it as it refuses
- * Restart, by 25 in its turn. */
+/* A zeroed struct is no session: every call refuses it, and a kind above 5, by 25, where 20 to 23 do not apply. */
 enum meanderpeg_session_kind {
-    MEANDERPEG_REGULAR = 0,
-    MEANDERPEG_STAGING = 1,
-    MEANDERPEG_TRIAL = 2,
-    MEANDERPEG_FALLBACK = 3,
-    MEANDERPEG_RESTART = 4
+    MEANDERPEG_NO_SESSION = 0,
+    MEANDERPEG_REGULAR = 1,  /* the active bank runs and is accepted: an update may begin */
+    MEANDERPEG_STAGING = 2,  /* an update is being written into the update bank */
+    MEANDERPEG_TRIAL = 3,    /* the active bank runs and has images that are not yet accepted */
+    MEANDERPEG_FALLBACK = 4, /* another bank than the active one runs */
+    MEANDERPEG_RESTART = 5   /* the active bank was changed: no call is accepted until the machine has started anew */
+};
+
+/* What meanderpeg_commit marks an image as; any other request does what 1 does. */
+enum meanderpeg_request {
+    MEANDERPEG_IMAGE_ACCEPTED = 0,  /* good from the start */
+    MEANDERPEG_IMAGE_UNACCEPTED = 1 /* on trial, after a restart into its bank, until meanderpeg_accept */
 };
 
 enum {
-    MEANDERPEG_AREA_BYTES = 16384,  /* "An area is 16,384 bytes" */
-    MEANDERPEG_STORE_NUMBERS = 4200, /* "That slice must hold 4,200 numbers (2,100 pairs)." */
-    MEANDERPEG_SHEET_BYTES = 4096,  /* a slice of so many bytes holds every bench sheet */
-    MEANDERPEG_GUID_BYTES = 16      /* "A GUID is compared as 16 bytes." */
+    MEANDERPEG_AREA_BYTES = 16384,
+    MEANDERPEG_STORE_NUMBERS = 4200, /* as many numbers as `stores` must hold: 2,100 pairs, 16,800 bytes */
+    MEANDERPEG_REPORT_BYTES = 4096,  /* as many bytes as `text` must hold */
+    MEANDERPEG_GUID_BYTES = 16       /* as stored: the first three fields little-endian; compared byte by byte */
 };
 
-/* ---- The window and the scattered list ---- */
+/* ---- Structs ---- */
 
-/* Reads the list of descriptors that starts at address `first` in the window, whose first byte has address `base`, and copies its
- * blocks together in list order. "The place chosen is the lowest start whose range, as long as the total, lies in the window and shares no byte
- * with any block or any descriptor read. Bytes outside it stay." Sets the place's address and the total. Refusals 1 to 7. */
-uint32_t meanderpeg_gather(uint8_t *window, size_t window_length, uint64_t base, uint64_t first,
-                           uint64_t *address, uint64_t *total);
+struct meanderpeg_gathered {
+    uint64_t address; /* the gathered bytes stand at window + (address - base), at any alignment */
+    uint64_t total;   /* how many there are: the capsule's length */
+};
+
+struct meanderpeg_counts {
+    size_t drivers;
+    size_t payloads;
+};
+
+/* a part of a capsule: capsule + start has `length` bytes of it, at any alignment */
+struct meanderpeg_part {
+    size_t start;
+    size_t length;
+};
+
+/* bank and set are read in Staging alone, and after a refusal come back as they were given */
+struct meanderpeg_session {
+    uint32_t kind; /* enum meanderpeg_session_kind */
+    uint32_t bank; /* in Staging the update bank, else 0 */
+    uint32_t set;  /* in Staging the images committed so far, bit i for the record's image i, else 0 */
+};
+
+struct meanderpeg_answer {
+    uint32_t refusal;                  /* enum meanderpeg_refusal */
+    uint32_t told[2];                  /* told[0] with 27: how many images are missing; every other is 0 */
+    struct meanderpeg_session session; /* the next one; with a refusal the one given. Repair, and a refused start-up,
+                                          have none to give: all 0 */
+    size_t pairs;                      /* how many stores are listed; 0 with a refusal */
+};
+
+/* ---- Gathering ----
+ * The window is memory that holds the list of descriptors, the blocks, and room for all blocks together. Every byte of
+ * it that is in no block and no descriptor counts as free, and may be overwritten. `base` is the address of its first
+ * byte in the terms of the descriptors (physical, where they hold physical addresses), and `first` that of the first
+ * descriptor.
+ *
+ * A descriptor is EFI_CAPSULE_BLOCK_DESCRIPTOR, 16 bytes at a multiple of 8: a length, then an address, little-endian,
+ * 64 bits each. Length above 0: a block of so many bytes. Length 0: the list goes on at the address, or ends where that
+ * is 0 too. At most 256 descriptors are read, jumps and the end among them, and the blocks have at most 16,777,216
+ * bytes in all. Blocks may overlap each other and the descriptors.
+ *
+ * The blocks are copied together, in list order, to the lowest place in the window that shares no byte with a block or
+ * a descriptor read; every other byte stays. Refusals 1 to 7. */
+MEANDERPEG_FUNCTION uint32_t meanderpeg_gather(uint8_t *window, size_t window_length, uint64_t base, uint64_t first,
+                                               struct meanderpeg_gathered *gathered)
+    MEANDERPEG_WRITES(1) MEANDERPEG_SETS(5);
 
 /* ---- The capsule ----
- * "Every item is checked before any is handed out. Items are numbered from 0 in list order", drivers first. Each function here
- * checks the whole capsule anew; as measured, its cost does not grow with the images' size. */
+ * Its items are numbered from 0, drivers first, then payloads; there are at most 64. Each function checks the whole
+ * capsule before it answers, so none needs another called first; the cost does not grow with the images' size. What is
+ * behind the last pointer is set where the answer is 0; with a refusal it stays as it was: initialise it to {0}, of a
+ * part an empty one. */
 
-/* "a sister entry gives the refusal number, or none, for the same input": 10 to 16, or 0. */
-uint32_t meanderpeg_capsule_refusal(const uint8_t *capsule, size_t capsule_length, size_t item);
+/* How many items there are. Refusals 10 to 15. */
+MEANDERPEG_FUNCTION uint32_t meanderpeg_capsule_check(const uint8_t *capsule, size_t capsule_length,
+                                                      struct meanderpeg_counts *counts)
+    MEANDERPEG_READS(1) MEANDERPEG_SETS(3);
 
-/* How many drivers and payloads the capsule has; 0 with a refusal of the capsule (10 to 15), which meanderpeg_capsule_refusal tells
- * for any item: 16 or 0 means a faultless capsule. */
-size_t meanderpeg_capsule_drivers(const uint8_t *capsule, size_t capsule_length);
-size_t meanderpeg_capsule_payloads(const uint8_t *capsule, size_t capsule_length);
+/* Where in the capsule the whole item is, its image, and its vendor code. A driver's image is the whole item, and its
+ * vendor code the empty part at the item's end. Refusals 10 to 16. */
+MEANDERPEG_FUNCTION uint32_t meanderpeg_capsule_item(const uint8_t *capsule, size_t capsule_length, size_t item,
+                                                     struct meanderpeg_part *part)
+    MEANDERPEG_READS(1) MEANDERPEG_SETS(4);
+MEANDERPEG_FUNCTION uint32_t meanderpeg_capsule_image(const uint8_t *capsule, size_t capsule_length, size_t item,
+                                                      struct meanderpeg_part *part)
+    MEANDERPEG_READS(1) MEANDERPEG_SETS(4);
+MEANDERPEG_FUNCTION uint32_t meanderpeg_capsule_vendor_code(const uint8_t *capsule, size_t capsule_length, size_t item,
+                                                            struct meanderpeg_part *part)
+    MEANDERPEG_READS(1) MEANDERPEG_SETS(4);
 
-/* "What is handed out for an item is the part of the lent capsule itself": where each part starts in the capsule, and how many
- * bytes it has. "the whole item for a driver, the image and the vendor code for a payload"; the item itself is had of either, a
- * driver's image is its whole item, "A driver's vendor code is the empty part at its item's end." With a refusal both are 0: "the
- * part answered is the empty part at the capsule's start". */
-size_t meanderpeg_capsule_item_start(const uint8_t *capsule, size_t capsule_length, size_t item);
-size_t meanderpeg_capsule_item_length(const uint8_t *capsule, size_t capsule_length, size_t item);
-size_t meanderpeg_capsule_image_start(const uint8_t *capsule, size_t capsule_length, size_t item);
-size_t meanderpeg_capsule_image_length(const uint8_t *capsule, size_t capsule_length, size_t item);
-size_t meanderpeg_capsule_vendor_code_start(const uint8_t *capsule, size_t capsule_length, size_t item);
-size_t meanderpeg_capsule_vendor_code_length(const uint8_t *capsule, size_t capsule_length, size_t item);
+/* A payload's UpdateImageTypeId, UpdateImageIndex and UpdateHardwareInstance (0 in a payload of version 1); all zeros
+ * for a driver. Refusals 10 to 16. */
+MEANDERPEG_FUNCTION uint32_t meanderpeg_capsule_type_guid(const uint8_t *capsule, size_t capsule_length, size_t item,
+                                                          uint8_t guid[MEANDERPEG_GUID_BYTES])
+    MEANDERPEG_READS(1) MEANDERPEG_SETS(4);
+MEANDERPEG_FUNCTION uint32_t meanderpeg_capsule_image_index(const uint8_t *capsule, size_t capsule_length, size_t item,
+                                                            uint8_t *index)
+    MEANDERPEG_READS(1) MEANDERPEG_SETS(4);
+MEANDERPEG_FUNCTION uint32_t meanderpeg_capsule_hardware_instance(const uint8_t *capsule, size_t capsule_length,
+                                                                  size_t item, uint64_t *instance)
+    MEANDERPEG_READS(1) MEANDERPEG_SETS(4);
 
-/* "Type GUID, index and instance are shown too: version 1 shows instance 0, a driver or a refusal all zeros." The type GUID goes
- * into 16 lent bytes; a driver has zeros there. A refusal, which is the answer, leaves them as they were: "no byte altered". */
-uint32_t meanderpeg_capsule_type_guid(const uint8_t *capsule, size_t capsule_length, size_t item,
-                                      uint8_t guid[MEANDERPEG_GUID_BYTES]);
-uint8_t meanderpeg_capsule_image_index(const uint8_t *capsule, size_t capsule_length, size_t item);
-uint64_t meanderpeg_capsule_hardware_instance(const uint8_t *capsule, size_t capsule_length, size_t item);
+/* ---- The area ----
+ * 16,384 bytes of storage with two copies of one record: copy 0 at offset 0, copy 1 at 8,192. A record is the metadata
+ * of DEN0118, version 2, with 2 to 4 banks and 1 to 32 images: 40 + images * (32 + 24 * banks) bytes, at most 4,136.
+ * The bytes behind it are free, and no store touches them. A copy is sound if its CRC agrees and every field is as the
+ * rules R ask. Read is copy 0 if it is sound (bit 0 of meanderpeg_soundness), else copy 1 (bit 1). From the start of
+ * that copy the active bank is at 8, the previous at 12 (32 bits each, little-endian), the banks' states at 24 (a byte
+ * each), the bank count at 32 (a byte), the image count at 34 (16 bits), and the type GUID of image i at
+ * 40 + i * (32 + 24 * banks).
+ *
+ * No function makes the first record: the platform's maker writes it, into both copies, by docs/RULES.md. R2 to R4 have
+ * its layout and its CRC, R6 to R19 what each field may hold. A bank that has no good images yet is invalid (255) in
+ * it. meanderpeg_soundness must then give 7. `meanderpeg record make`, a command of rust/, writes such an area into a
+ * file: every bank accepted, 0 active, 1 previous. */
 
-/* ---- The record ---- */
+/* Sets `copies`: bit 0 if copy 0 is sound, bit 1 if copy 1 is, bit 2 if both are and are equal. So 0, 1, 2, 3 or 7;
+ * 7 is the one that needs no repair. Refusal 20. */
+MEANDERPEG_FUNCTION uint32_t meanderpeg_soundness(const uint8_t *area, size_t area_length, uint32_t *copies)
+    MEANDERPEG_READS(1) MEANDERPEG_SETS(3);
 
-/* Sets `record_copies` to which copies are sound: bit 0 for copy 0, bit 1 for copy 1, bit 2 where both are and are equal ("Copies are
- * equal if their records are, byte for byte."). So 0, 1, 2, 3 or 7. Refusal 20, which leaves it as it was. */
-uint32_t meanderpeg_soundness(const uint8_t *area, size_t area_length, uint32_t *copies);
+/* Writes the record read to the front of `text`, as lines of words and numbers with tabs between, and gives how many
+ * bytes they have; no zero byte ends them: `record` copy size, `active` bank, `previous` bank, `bank` number state (252
+ * accepted, 254 valid, 255 invalid), `image` number bank accepted. Of a refused area (20, 21) the line is `refused`
+ * number. Fewer than 4,096 bytes of text stay as they are, and the answer is 0. */
+MEANDERPEG_FUNCTION size_t meanderpeg_report(const uint8_t *area, size_t area_length, uint8_t *text,
+                                             size_t text_length)
+    MEANDERPEG_READS(1) MEANDERPEG_WRITES(3);
 
-/* The bench sheet's text at the front of `report_text`; answers how many bytes it has, and every byte past it stays. A refused area has
- * a sheet too: `refused`, tab, number, line feed. No zero byte ends the text. A slice below 4,096 bytes stays whole, whatever the area,
- * and the answer is 0, which no sheet has. */
-size_t meanderpeg_sheet(const uint8_t *area, size_t area_length, uint8_t *text, size_t text_length);
+/* The session to go on with after a start from bank `booted`: Fallback if that is not the active bank, else Regular if
+ * the active bank is accepted, else Trial. One sound copy is enough. Lists no store. Refusals 20, 21, 28. */
+MEANDERPEG_FUNCTION struct meanderpeg_answer meanderpeg_start_up(const uint8_t *area, size_t area_length,
+                                                                 uint32_t booted)
+    MEANDERPEG_READS(1);
 
-/* "Start-up is given the bank that booted: Fallback if it isn't the active one, else Regular if the active bank is 252, else
- * Trial." Sets the session's kind; bank and set count in Staging alone, which start-up never answers. Refusals 20, 21, 28. */
-uint32_t meanderpeg_start_up(const uint8_t *area, size_t area_length, uint32_t booted, uint32_t *kind);
+/* Lists the stores that put the record read into the other copy; none where both are sound and equal. Needs no session
+ * and answers none. Refusals 20, 23, 21. */
+MEANDERPEG_FUNCTION struct meanderpeg_answer meanderpeg_repair(const uint8_t *area, size_t area_length,
+                                                               uint32_t *stores, size_t stores_length)
+    MEANDERPEG_READS(1) MEANDERPEG_WRITES(3);
 
-/* ---- Stores ----
- * Repair and the calls alter no area. They list stores, "each a pair (offset, word)", at the front of `record_stores`, and set `pairs` to
- * how many there are. The caller does them in list order: each puts its word, little-endian, into the four bytes of the area at its
- * offset. "Numbers past the list stay." The slice must hold 4,200 numbers, else 23. */
+/* ---- The calls ----
+ * Each is given the session and lists its stores. Refusals of all: 20, 23, 21, 22, 24, 25. */
 
-/* "none if the copies are sound and equal, else the record read goes into the other copy". Refusals 20, 23, 21. */
-uint32_t meanderpeg_repair(const uint8_t *area, size_t area_length, uint32_t *stores, size_t stores_length,
-                           size_t *pairs);
+/* In Regular, or in Staging to start over. The bank after the active one, or bank 0 after the last, becomes the update
+ * bank: invalid, its images unaccepted. With two banks that is the other one: from here to meanderpeg_end, and after a
+ * cancel, there is no second bank to fall back to. Next: Staging, no image committed. */
+MEANDERPEG_FUNCTION struct meanderpeg_answer meanderpeg_begin(struct meanderpeg_session session, const uint8_t *area,
+                                                              size_t area_length, uint32_t *stores,
+                                                              size_t stores_length)
+    MEANDERPEG_READS(2) MEANDERPEG_WRITES(4);
 
-/* The six calls. A session is three numbers: kind, and for Staging "its bank and a 32-bit set of committed images". An accepted
- * call sets all three, bank and set to 0 where the next session isn't Staging. The numbers of bank and set are read with kind 1
- * alone. Refusals of each: 20, 23, 21, 22, 24, 25. */
+/* In Staging, for the image of this type GUID, once all of it is in the update bank for good. `request` is of enum
+ * meanderpeg_request. 0: the image is accepted at once; any other: unaccepted, so that the new bank is on trial first.
+ * Of two commits of one image the later holds. Next: Staging. Also 26. */
+MEANDERPEG_FUNCTION struct meanderpeg_answer meanderpeg_commit(struct meanderpeg_session session, const uint8_t *area,
+                                                               size_t area_length,
+                                                               const uint8_t guid[MEANDERPEG_GUID_BYTES],
+                                                               uint32_t request, uint32_t *stores,
+                                                               size_t stores_length)
+    MEANDERPEG_READS(2) MEANDERPEG_WRITES(6);
 
-/* "Begin (Regular, Staging): the update bank is (active + 1) mod banks. It becomes 255 with all images unaccepted; the set is
- * empty." The next session is Staging. */
-uint32_t meanderpeg_begin(uint32_t *kind, uint32_t *bank, uint32_t *set, const uint8_t *area, size_t area_length,
-                          uint32_t *stores, size_t stores_length, size_t *pairs);
+/* In Staging, when every image of the record has been committed, else 27. The update bank becomes the active one,
+ * accepted if all its images are, and the active one the previous. Next: Restart. */
+MEANDERPEG_FUNCTION struct meanderpeg_answer meanderpeg_end(struct meanderpeg_session session, const uint8_t *area,
+                                                            size_t area_length, uint32_t *stores,
+                                                            size_t stores_length)
+    MEANDERPEG_READS(2) MEANDERPEG_WRITES(4);
 
-/* "Commit (Staging), by type GUID and a request: 0 marks it accepted, above 0 unaccepted; it joins the set. A repeat: the later
- * stands." Also 26. */
-uint32_t meanderpeg_commit(uint32_t *kind, uint32_t *bank, uint32_t *set, const uint8_t *area, size_t area_length,
-                           const uint8_t guid[MEANDERPEG_GUID_BYTES], uint32_t request, uint32_t *stores,
-                           size_t stores_length, size_t *pairs);
+/* In Staging: gives the update up. Lists no store; the update bank stays invalid. Next: Regular. */
+MEANDERPEG_FUNCTION struct meanderpeg_answer meanderpeg_cancel(struct meanderpeg_session session, const uint8_t *area,
+                                                               size_t area_length, uint32_t *stores,
+                                                               size_t stores_length)
+    MEANDERPEG_READS(2) MEANDERPEG_WRITES(4);
 
-/* "End (Staging): every image must be in the set; a refusal tells how many are missing. The bank becomes 252 if all are accepted,
- * else 254. Previous takes active, active takes the update bank". The next session is Restart. Also 27, which sets `missing` and
- * nothing else; with any other answer `missing` stays. */
-uint32_t meanderpeg_end(uint32_t *kind, uint32_t *bank, uint32_t *set, const uint8_t *area, size_t area_length,
-                        uint32_t *stores, size_t stores_length, size_t *pairs, uint32_t *missing);
+/* In Trial: the image of this type GUID becomes accepted in the active bank; with the last one the bank does. Next:
+ * Regular if all are accepted, else Trial. Also 26. */
+MEANDERPEG_FUNCTION struct meanderpeg_answer meanderpeg_accept(struct meanderpeg_session session, const uint8_t *area,
+                                                               size_t area_length,
+                                                               const uint8_t guid[MEANDERPEG_GUID_BYTES],
+                                                               uint32_t *stores, size_t stores_length)
+    MEANDERPEG_READS(2) MEANDERPEG_WRITES(5);
 
-/* "Cancel (Staging): Regular; Cancel itself changes nothing in the record, so that bank stays 255." Lists no store. */
-uint32_t meanderpeg_cancel(uint32_t *kind, uint32_t *bank, uint32_t *set, const uint8_t *area, size_t area_length,
-                           uint32_t *stores, size_t stores_length, size_t *pairs);
+/* In Trial or Fallback, where the previous bank is accepted, else 25: active and previous bank change places. Next:
+ * Restart. */
+MEANDERPEG_FUNCTION struct meanderpeg_answer meanderpeg_select_previous(struct meanderpeg_session session,
+                                                                        const uint8_t *area, size_t area_length,
+                                                                        uint32_t *stores, size_t stores_length)
+    MEANDERPEG_READS(2) MEANDERPEG_WRITES(4);
 
-/* "Accept (Trial): the image becomes accepted in the active bank; when all are, the bank is 252 and the session Regular. Accepting
- * an accepted image changes nothing in the record; the next session is still Regular if all are accepted, else Trial." By type
- * GUID. Also 26. */
-uint32_t meanderpeg_accept(uint32_t *kind, uint32_t *bank, uint32_t *set, const uint8_t *area, size_t area_length,
-                           const uint8_t guid[MEANDERPEG_GUID_BYTES], uint32_t *stores, size_t stores_length,
-                           size_t *pairs);
+/* ---- Refusals in words ---- */
 
-/* "Select previous (Trial, Fallback): the previous bank must be 252. Active and previous are exchanged. Restart." */
-uint32_t meanderpeg_select_previous(uint32_t *kind, uint32_t *bank, uint32_t *set, const uint8_t *area,
-                                    size_t area_length, uint32_t *stores, size_t stores_length, size_t *pairs);
+static inline const char *meanderpeg_refusal_text(uint32_t refusal) {
+    switch (refusal) {
+    case MEANDERPEG_OK: return "no refusal";
+    case MEANDERPEG_WINDOW_END: return "the window ends above 2^64";
+    case MEANDERPEG_DESCRIPTOR_COUNT: return "the list has more than 256 descriptors";
+    case MEANDERPEG_DESCRIPTOR_ADDRESS: return "a descriptor is not at a multiple of 8 or not wholly in the window";
+    case MEANDERPEG_BLOCK_OUTSIDE: return "a block is not wholly in the window";
+    case MEANDERPEG_TOTAL_LENGTH: return "the blocks have more than 16,777,216 bytes in all";
+    case MEANDERPEG_TOTAL_ZERO: return "the list has no block";
+    case MEANDERPEG_NO_PLACE: return "the window has no free place for the bytes of all blocks";
+    case MEANDERPEG_CAPSULE_SHORT: return "the capsule is shorter than 28 bytes";
+    case MEANDERPEG_CAPSULE_SIZES: return "the capsule's HeaderSize or CapsuleImageSize is at fault";
+    case MEANDERPEG_CAPSULE_FLAGS: return "the capsule's flags ask for a reset but not to persist across it";
+    case MEANDERPEG_CAPSULE_GUID: return "the capsule's GUID is not that of a firmware management capsule";
+    case MEANDERPEG_CAPSULE_BODY: return "the capsule's body is at fault: its length, version, counts or offsets";
+    case MEANDERPEG_CAPSULE_PAYLOAD: return "a payload of the capsule is at fault: its version or sizes";
+    case MEANDERPEG_NO_ITEM: return "the capsule has no item of that number";
+    case MEANDERPEG_AREA_LENGTH: return "the area is not 16,384 bytes long";
+    case MEANDERPEG_NO_SOUND_COPY: return "no copy of the record is sound";
+    case MEANDERPEG_NOT_SOUND_AND_EQUAL: return "the copies of the record are not both sound and equal: repair first";
+    case MEANDERPEG_STORE_SLICE: return "the slice for stores is shorter than 4,200 numbers";
+    case MEANDERPEG_STAGING_FAULT: return "the Staging session does not fit the record";
+    case MEANDERPEG_SESSION_STATE: return "the call is not for this session, or the previous bank is not accepted";
+    case MEANDERPEG_NO_IMAGE: return "the record has no image of that type GUID";
+    case MEANDERPEG_IMAGES_MISSING: return "not every image has been committed";
+    case MEANDERPEG_BOOTED_BANK: return "the record has no bank of the number that was started";
+    default: return "no such refusal";
+    }
+}
 
 #ifdef __cplusplus
 }

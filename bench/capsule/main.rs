@@ -2,26 +2,44 @@
 // instructions of. See `run`.
 mod second;
 
-extern "C" {
-    fn meanderpeg_capsule_refusal(s: *const u8, len: usize, k: usize) -> u32;
-    fn meanderpeg_capsule_item_length(s: *const u8, len: usize, k: usize) -> usize;
-    fn meanderpeg_capsule_image_length(s: *const u8, len: usize, k: usize) -> usize;
-    fn meanderpeg_capsule_vendor_code_length(s: *const u8, len: usize, k: usize) -> usize;
+#[repr(C)]
+struct Counts {
+    drivers: usize,
+    payloads: usize,
 }
+
+#[repr(C)]
+struct Part {
+    start: usize,
+    length: usize,
+}
+
+type PartOf = unsafe extern "C" fn(*const u8, usize, usize, *mut Part) -> u32;
+
+extern "C" {
+    fn meanderpeg_capsule_check(s: *const u8, len: usize, counts: *mut Counts) -> u32;
+    fn meanderpeg_capsule_item(s: *const u8, len: usize, k: usize, part: *mut Part) -> u32;
+    fn meanderpeg_capsule_image(s: *const u8, len: usize, k: usize, part: *mut Part) -> u32;
+    fn meanderpeg_capsule_vendor_code(s: *const u8, len: usize, k: usize, part: *mut Part) -> u32;
+}
+
+// What stands behind a pointer before a call, and stays with a refusal.
+const BEFORE: usize = 77;
 
 // The functions ask nothing of their callers, so a slice is all they need.
-fn refusal(s: &[u8], k: usize) -> u32 {
-    unsafe { meanderpeg_capsule_refusal(s.as_ptr(), s.len(), k) }
+fn check(s: &[u8]) -> (u32, [usize; 2]) {
+    let mut counts = Counts { drivers: BEFORE, payloads: BEFORE };
+    let number = unsafe { meanderpeg_capsule_check(s.as_ptr(), s.len(), &mut counts) };
+    (number, [counts.drivers, counts.payloads])
 }
 
-fn lengths(s: &[u8], k: usize) -> [usize; 3] {
-    unsafe {
-        [
-            meanderpeg_capsule_item_length(s.as_ptr(), s.len(), k),
-            meanderpeg_capsule_image_length(s.as_ptr(), s.len(), k),
-            meanderpeg_capsule_vendor_code_length(s.as_ptr(), s.len(), k),
-        ]
-    }
+// The refusals and the places of item, image and vendor code.
+fn parts(s: &[u8], k: usize) -> [(u32, usize, usize); 3] {
+    [meanderpeg_capsule_item as PartOf, meanderpeg_capsule_image, meanderpeg_capsule_vendor_code].map(|part_of| {
+        let mut part = Part { start: BEFORE, length: BEFORE };
+        let number = unsafe { part_of(s.as_ptr(), s.len(), k, &mut part) };
+        (number, part.start, part.length)
+    })
 }
 
 struct Random(u64);
@@ -83,7 +101,8 @@ fn faultless(r: &mut Random) -> Vec<u8> {
     s
 }
 
-// Up to three faults: a byte moved by one or set at random, a field at an end of its range, or a length that does not agree.
+// Up to three faults: a byte moved by one or set at random, a field at an end of its range, or a length that does not
+// agree.
 fn spoil(s: &mut Vec<u8>, r: &mut Random) {
     for _ in 0..r.below(4) {
         if s.is_empty() {
@@ -109,12 +128,14 @@ fn compare(turns: usize) {
     for turn in 0..turns {
         let mut s = faultless(&mut r);
         spoil(&mut s, &mut r);
+        let wanted = second::counts(&s).map_or_else(|n| (n, [BEFORE; 2]), |counts| (0, counts));
+        assert_eq!(check(&s), wanted, "turn {turn}: the check, in {s:02x?}");
         for k in [0, 1, 2, 3, 5, 6, usize::MAX] {
-            let (number, parts) = second::answer(&s, k);
-            let got = refusal(&s, k);
-            assert_eq!(got, number, "turn {turn}, item {k}: refusal, in {s:02x?}");
-            assert_eq!(lengths(&s, k), parts, "turn {turn}, item {k}: lengths, in {s:02x?}");
-            seen[got as usize] += 1;
+            let wanted = second::parts(&s, k);
+            let number = *wanted.as_ref().err().unwrap_or(&0);
+            let wanted = wanted.map_or([(number, BEFORE, BEFORE); 3], |places| places.map(|(start, length)| (0, start, length)));
+            assert_eq!(parts(&s, k), wanted, "turn {turn}, item {k}: refusal, start and length, in {s:02x?}");
+            seen[number as usize] += 1;
         }
     }
     println!("{turns} capsules agree; answers by refusal number, 0 for none:");
@@ -143,7 +164,7 @@ fn main() {
     let words: Vec<String> = std::env::args().collect();
     match words.get(1).map(|w| w.as_str()) {
         Some("compare") => compare(words[2].parse().unwrap()),
-        Some("check") => println!("refusal {}", refusal(&single(words[2].parse().unwrap()), 0)),
+        Some("check") => println!("refusal {}", check(&single(words[2].parse().unwrap())).0),
         _ => panic!("compare TURNS, or check IMAGE-SIZE"),
     }
 }

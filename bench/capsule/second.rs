@@ -1,17 +1,14 @@
-// A second version of the capsule's rules, written from the text of document 01 for the comparison only. It shares no code
-// with the crates: whole numbers, no care for speed.
+// A second version of the capsule's rules (C of docs/RULES.md), written from their text for the comparison only. It
+// shares no code with the crates: whole numbers, no care for speed.
 
 fn number(s: &[u8], at: usize, width: usize) -> u128 {
     s[at..at + width].iter().rev().fold(0, |n, b| n * 256 + *b as u128)
 }
 
-struct Item {
-    whole: usize,
-    image: usize,
-    vendor: usize,
-}
+type Places = [(usize, usize); 3];
 
-fn items(s: &[u8]) -> Result<Vec<Item>, u32> {
+// The count of drivers, and for each item where it, its image and its vendor code start, and their lengths.
+fn items(s: &[u8]) -> Result<(usize, Vec<Places>), u32> {
     if s.len() < 28 {
         return Err(10);
     }
@@ -45,37 +42,38 @@ fn items(s: &[u8]) -> Result<Vec<Item>, u32> {
     let mut out = Vec::new();
     for k in 0..count {
         let item = &body[places[k] as usize..places[k + 1] as usize];
+        let at = header as usize + places[k] as usize;
         if k < drivers {
-            out.push(Item { whole: item.len(), image: item.len(), vendor: 0 });
+            out.push([(at, item.len()), (at, item.len()), (at + item.len(), 0)]);
             continue;
         }
         if item.len() < 4 {
             return Err(15);
         }
-        let header = match number(item, 0, 4) {
+        let head = match number(item, 0, 4) {
             1 => 32,
             2 => 40,
             _ => return Err(15),
         };
-        if item.len() < header {
+        if item.len() < head {
             return Err(15);
         }
         let (image, vendor) = (number(item, 24, 4), number(item, 28, 4));
-        if header as u128 + image + vendor > item.len() as u128 {
+        if head as u128 + image + vendor > item.len() as u128 {
             return Err(15);
         }
-        out.push(Item { whole: item.len(), image: image as usize, vendor: vendor as usize });
+        let (image, vendor) = (image as usize, vendor as usize);
+        out.push([(at, item.len()), (at + head, image), (at + head + image, vendor)]);
     }
-    Ok(out)
+    Ok((drivers, out))
 }
 
-// The refusal's number or 0, and the lengths of the item, its image and its vendor code.
-pub fn answer(s: &[u8], k: usize) -> (u32, [usize; 3]) {
-    match items(s) {
-        Err(n) => (n, [0, 0, 0]),
-        Ok(found) => match found.get(k) {
-            None => (16, [0, 0, 0]),
-            Some(i) => (0, [i.whole, i.image, i.vendor]),
-        },
-    }
+// The counts of drivers and payloads, or the refusal's number.
+pub fn counts(s: &[u8]) -> Result<[usize; 2], u32> {
+    items(s).map(|(drivers, found)| [drivers, found.len() - drivers])
+}
+
+// Where item k, its image and its vendor code start, and their lengths, or the refusal's number.
+pub fn parts(s: &[u8], k: usize) -> Result<Places, u32> {
+    items(s)?.1.get(k).copied().ok_or(16)
 }

@@ -1,9 +1,16 @@
-// Gathering 16 MiB from 255 blocks: the proved function against a straightforward Rust version (`copy_within`), same machine, same
-// run, both built for release. Before timing, both gather the same random small windows, and every answer and every byte must agree.
+// Gathering 16 MiB from 255 blocks: the proved function against a straightforward Rust version (`copy_within`), same
+// machine, same run, both built for release. Before timing, both gather the same random small windows, and every answer
+// and every byte must agree.
 use std::time::Instant;
 
+#[repr(C)]
+struct Gathered {
+    address: u64,
+    total: u64,
+}
+
 extern "C" {
-    fn meanderpeg_gather(w: *mut u8, len: usize, base: u64, first: u64, address: *mut u64, total: *mut u64) -> u32;
+    fn meanderpeg_gather(w: *mut u8, len: usize, base: u64, first: u64, gathered: *mut Gathered) -> u32;
 }
 
 #[derive(PartialEq, Debug)]
@@ -13,9 +20,9 @@ enum Answer {
 }
 
 fn proved(w: &mut [u8], base: u64, first: u64) -> Answer {
-    let (mut address, mut total) = (0u64, 0u64);
-    match unsafe { meanderpeg_gather(w.as_mut_ptr(), w.len(), base, first, &mut address, &mut total) } {
-        0 => Answer::Placed(address, total),
+    let mut gathered = Gathered { address: 0, total: 0 };
+    match unsafe { meanderpeg_gather(w.as_mut_ptr(), w.len(), base, first, &mut gathered) } {
+        0 => Answer::Placed(gathered.address, gathered.total),
         n => Answer::Refused(n),
     }
 }

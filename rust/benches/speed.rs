@@ -1,8 +1,8 @@
-//! How fast the library is, built for release, the best of many runs on one machine: gathering 16 MiB from 255 blocks against a
-//! straightforward Rust version (`copy_within`), and start-up, soundness and Begin on the largest record, 4,136 bytes. The windows
-//! and the area are warm. `cargo bench --offline`; with `-- calls`, without gathering.
+//! How fast the library is, built for release, the best of many runs on one machine: gathering 16 MiB from 255 blocks
+//! against a straightforward Rust version (`copy_within`), and start-up, soundness and Begin on the largest record,
+//! 4,136 bytes. The windows and the area are warm. `cargo bench --offline`; with `-- calls`, without gathering.
 
-use meanderpeg::{Gathered, Session, STORE_NUMBERS};
+use meanderpeg::{start_up, BankIndex, Session, SessionState, STORE_NUMBERS};
 use second::make::{make_area, make_record, put_descriptor};
 use std::hint::black_box;
 use std::time::Instant;
@@ -16,8 +16,9 @@ fn number(window: &[u8], at: usize) -> usize {
     u64::from_le_bytes(window[at..at + 8].try_into().expect("8 bytes")) as usize
 }
 
-/// The straightforward version, for the lists made here: they are faultless and have no jump.
-fn plain(window: &mut [u8], base: u64) -> Option<Gathered> {
+/// The straightforward version, for the lists made here: they are faultless and have no jump. Answers the place's
+/// address and the total.
+fn plain(window: &mut [u8], base: u64) -> Option<(u64, usize)> {
     let mut blocks = vec![];
     let mut taken = vec![];
     for at in (0..).step_by(16) {
@@ -41,7 +42,7 @@ fn plain(window: &mut [u8], base: u64) -> Option<Gathered> {
         window.copy_within(start..end, to);
         to += end - start;
     }
-    Some(Gathered { address: base + place as u64, total: total as u64 })
+    Some((base + place as u64, total))
 }
 
 /// A window with its list at the start, `gap` bytes between the blocks, and room for the total behind them.
@@ -70,7 +71,7 @@ fn gathering(name: &str, gap: usize, order: fn(usize) -> usize) -> f64 {
         let start = Instant::now();
         let found = meanderpeg::gather(&mut two, BASE, BASE);
         best[1] = best[1].min(start.elapsed().as_secs_f64());
-        assert_eq!(found.ok(), wanted);
+        assert_eq!(found.ok().map(|gathered| (gathered.address(), gathered.bytes().len())), wanted);
     }
     assert!(one == two, "{name}: the windows differ");
     let ratio = best[1] / best[0];
@@ -109,9 +110,13 @@ fn main() {
     assert_eq!(record.len(), 4_136);
     let area = make_area(&record, &record, 0);
     let mut numbers = [0; STORE_NUMBERS];
+    let booted = BankIndex::new(0);
     call("start-up, record of 4,136 bytes", || {
-        assert_eq!(meanderpeg::start_up(black_box(&area), 0), Ok(Session::Regular));
+        assert!(start_up(black_box(&area), booted).is_ok_and(|session| session.state() == SessionState::Regular));
     });
     call("soundness of both copies", || assert!(meanderpeg::soundness(black_box(&area)).is_ok_and(|s| s.equal)));
-    call("Begin", || assert!(Session::Regular.begin(black_box(&area), &mut numbers).refusal.is_none()));
+    call("Begin", || {
+        let session = Session::resume(SessionState::Regular);
+        assert!(session.begin(black_box(&area), &mut numbers).is_ok());
+    });
 }

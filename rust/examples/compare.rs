@@ -1,5 +1,6 @@
-//! The library against the second implementation, with tallies: how often each refusal and each accepted case was reached.
-//! Arguments: the seed (1), the number of inputs for each entry (10,000), an entry's name (all). The last line is the verdict.
+//! The library against the second implementation, with tallies: how often each refusal and each accepted case was
+//! reached. Arguments: the seed (1), the number of inputs for each entry (10,000), an entry's name (all). The last line
+//! is the verdict.
 
 #[path = "../tests/compare/mod.rs"]
 mod compare;

@@ -1,16 +1,18 @@
-//! Real cuts. A child process does a call's stores in a file that holds the area, one write of four bytes for each store, and is
-//! killed by its parent (SIGKILL) at a random moment. Then the file is read as a device reads its area when power returns, and
-//! repaired by children that may be killed too. "What start-up reads" must be the old record or the new, the same after each
-//! repair, and after a finished repair the whole area is the one that document 01 gives for that record.
+//! Real cuts. A child process does a call's stores in a file that holds the area, one write of four bytes for each
+//! store, and is killed by its parent (SIGKILL) at a random moment. Then the file is read as a device reads its area
+//! when power returns, and repaired by children that may be killed too. What start-up reads must be the old record or
+//! the new, the same after each repair, and after a finished repair the whole area is the one that the rules give for
+//! that record (P1 to P11).
 //!
-//! Arguments: the number of kills to stop at (3,000), the seconds to stop at (60), the seed (1). Exit status 1 if nothing was killed, if no
-//! change was cut between two of its stores, or if anything else
-//! than the old or the new record was read or left. With `backwards` as a fourth argument the children do a change's stores in the wrong order, to show that
-//! this is noticed: the exit status must then be 1.
+//! Arguments: the number of kills to stop at (3,000), the seconds to stop at (60), the seed (1). Exit status 1 if
+//! nothing was killed, if no change was cut between two of its stores, or if anything else than the old or the new
+//! record was read or left. With `backwards` as a fourth argument the children do a change's stores in the wrong order,
+//! to show that this is noticed: the exit status must then be 1.
 
 #[path = "../tests/compare/mod.rs"]
 mod compare;
 
+use meanderpeg::BankIndex;
 use second::answers::call_answer;
 use second::inputs::{call_input, CallInput, Draw};
 use second::record::{banks, both_sound_and_equal, record_read};
@@ -24,7 +26,8 @@ use std::path::Path;
 use std::process::{Child, Command, Stdio};
 use std::time::{Duration, Instant};
 
-/// A child's time for one store: a list takes 2 milliseconds or more, so that most kills fall between its first and its last.
+/// A child's time for one store: a list takes 2 milliseconds or more, so that most kills fall between its first and its
+/// last.
 fn pace(stores: usize) -> Duration {
     let least = Duration::from_micros(12);
     least.max(Duration::from_millis(2) / stores.max(1) as u32)
@@ -48,14 +51,15 @@ struct Counts {
     else_read: u64,
 }
 
-/// A child: does the stores of a call (call 2 to 7 with input `seed`, `k`) or of a repair (call 1), told of by the file alone.
+/// A child: does the stores of a call (call 2 to 7 with input `seed`, `k`) or of a repair (call 1), told of by the file
+/// alone.
 fn child(file: &Path, call: u64, seed: u64, k: u64, backwards: bool) {
     let mut input = if call == 1 { call_input(1, 0, 0) } else { call_input(call, seed, k) };
     input.area = fs::read(file).expect("the area's file");
     let mut numbers = [0; meanderpeg::STORE_NUMBERS];
     let stores = match call {
-        1 => meanderpeg::repair(&input.area, &mut numbers).expect("a sound copy"),
-        _ => compare::answer_of(call, &input, &mut numbers).accepted().expect("an accepted call").1,
+        1 => meanderpeg::repair(&input.area, &mut numbers).expect("a sound copy").stores(),
+        _ => compare::answer_of(call, &input, &mut numbers).expect("an accepted call").stores(),
     };
     let area = OpenOptions::new().write(true).open(file).expect("the area's file");
     println!("{}", stores.len());
@@ -66,7 +70,7 @@ fn child(file: &Path, call: u64, seed: u64, k: u64, backwards: bool) {
             std::hint::spin_loop();
         }
         let store = if backwards { stores[stores.len() - 1 - i] } else { *store };
-        area.write_all_at(&store.word.to_le_bytes(), store.offset as u64).expect("a store");
+        area.write_all_at(&store.word().to_le_bytes(), store.offset() as u64).expect("a store");
     }
 }
 
@@ -77,8 +81,8 @@ fn spawn(file: &Path, call: u64, seed: u64, k: u64, order: &str) -> Child {
     command.stdout(Stdio::piped()).spawn().expect("a child")
 }
 
-/// Runs a child and kills it at a moment drawn over the time that its stores take, or lets it finish. Answers whether it was
-/// killed before it had finished; none if it failed.
+/// Runs a child and kills it at a moment drawn over the time that its stores take, or lets it finish. Answers whether
+/// it was killed before it had finished; none if it failed.
 fn run_child(mut child: Child, draw: &mut Draw, kill: bool) -> Option<bool> {
     let mut line = String::new();
     BufReader::new(child.stdout.as_mut().expect("its output")).read_line(&mut line).expect("its count");
@@ -110,8 +114,8 @@ fn read(file: &Path, counts: &mut Counts) -> Option<(Vec<u8>, Vec<u8>)> {
     let record = record_read(&area)?.1;
     for booted in 0..=banks(&record) as u32 {
         let wanted = plain::start_up(&area, booted);
-        let good = match meanderpeg::start_up(&area, booted) {
-            Ok(session) => wanted.refusal == 0 && session == compare::session_of(wanted.session),
+        let good = match meanderpeg::start_up(&area, BankIndex::new(booted)) {
+            Ok(session) => wanted.refusal == 0 && session.state() == compare::state_of(wanted.session),
             Err(refusal) => refusal.number() == wanted.refusal,
         };
         counts.start_ups += 1;
@@ -122,7 +126,7 @@ fn read(file: &Path, counts: &mut Counts) -> Option<(Vec<u8>, Vec<u8>)> {
     Some((area, record))
 }
 
-/// Repairs until one repair finished. Answers whether each start-up read `record_layout` and the area left is `wanted`.
+/// Repairs until one repair finished. Answers whether each start-up read `record` and the area left is `wanted`.
 fn repair(file: &Path, record: &[u8], wanted: &[u8], draw: &mut Draw, counts: &mut Counts) -> bool {
     let mut killed = 0;
     loop {
@@ -154,7 +158,7 @@ fn change(file: &Path, (call, seed, k): (u64, u64, u64), order: &str, draw: &mut
     let input = call_input(call, seed, k);
     let answer = call_answer(call, &input);
     let mut numbers = [0; meanderpeg::STORE_NUMBERS];
-    let mut pairs = compare::pairs_of(compare::answer_of(call, &input, &mut numbers).stores);
+    let mut pairs = compare::listed(call, &input, &mut numbers);
     if order == "backwards" {
         pairs.reverse();
     }

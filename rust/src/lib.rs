@@ -1,56 +1,126 @@
-//! Meanderpeg for Rust: the functions of the proved library, which `c/library` writes, with Rust's types. Words in quotes are
-//! those of document 01.
+//! Meanderpeg for Rust: firmware update code that is proved. It gathers a UEFI capsule that lies scattered in memory,
+//! checks it, and keeps the Arm A/B update record (DEN0118), so that power may fail at any store.
 //!
-//! What each function answers, and every byte that it leaves, is proved of the library for all inputs (crates/c_*). What
-//! is proved of nothing: that the declarations in `raw` say what the library has, that the compilers are right, and what this
-//! package adds, which is only the change from numbers to types. Its tests compare all of it with a second implementation.
+//! What each function of the linked library answers, and every byte that it leaves, is proved for all inputs that
+//! Rust's references allow. What this package adds is the change from numbers to types, which its tests compare with a
+//! second implementation; that, and the compilers, are proved of nothing. The rules are in docs/RULES.md; G1, C1 and so
+//! on are their numbers.
 //!
-//! Nothing here allocates or keeps memory, and a refusal alters nothing that was lent. No input makes an entry panic; only
-//! `Store::apply` and `Gathered::part` do, where they are given another area or window than the one that their answer is about.
+//! No function allocates, keeps memory or panics, whatever it is given (N102). A refusal alters nothing that was lent
+//! (N105).
+//!
+//! - [`gather`] puts together a capsule that lies scattered in memory.
+//! - [`Capsule::check`] checks one whole; its [`Item`]s are the drivers and payloads.
+//! - [`start_up`] and [`repair`] come after every start of the device, and the six calls of [`Session`] make an update.
+//!   Each call's [`Answer`] lists stores, and the next session is had by performing them.
+//! - [`soundness`] and [`report`] tell what an area holds.
+//!
+//! # An update
 //!
 //! ```
-//! use meanderpeg::{Session, STORE_NUMBERS};
-//! # let (zero, one) = (second::make::make_record(2, 1, 0, 1), second::make::make_record(2, 1, 0, 1));
-//! # let mut area = second::make::make_area(&zero, &one, 0);
-//! let session = meanderpeg::start_up(&area, 0).unwrap();
-//! assert_eq!(session, Session::Regular);
-//! let mut numbers = [0; STORE_NUMBERS];
-//! let answer = session.begin(&area, &mut numbers);
-//! assert_eq!(answer.session, Session::Staging { bank: 1, set: 0 });
-//! for store in answer.stores {
-//!     store.apply(&mut area); // on a device: one write of a word
+//! use meanderpeg::{start_up, Acceptance, BankIndex, Guid, SessionState, AREA_BYTES, STORE_NUMBERS};
+//!
+//! fn main() -> Result<(), Box<dyn std::error::Error>> {
+//!     // The area of a new device, all other bytes 0: two copies of a record with two banks and one image.
+//!     let guid: Guid = "a0a1a2a3-a4a5-a6a7-a8a9-aaabacadaeaf".parse()?;
+//!     let crc = [(0, 0x0e), (1, 0x56), (2, 0x9a), (3, 0xc2)];
+//!     let header = [(4, 2), (12, 1), (16, 120), (20, 32), (24, 252), (25, 252), (26, 255), (27, 255)];
+//!     let images = [(32, 2), (34, 1), (36, 80), (38, 24), (88, 1), (112, 1)];
+//!     let mut area = [0; AREA_BYTES];
+//!     for copy in [0, AREA_BYTES / 2] {
+//!         crc.iter().chain(&header).chain(&images).for_each(|&(at, byte)| area[copy + at] = byte);
+//!         area[copy + 40..copy + 56].copy_from_slice(guid.as_bytes());
+//!     }
+//!
+//!     let mut numbers = [0; STORE_NUMBERS];
+//!     meanderpeg::repair(&area, &mut numbers)?.perform_in(&mut area)?;
+//!     let session = start_up(&area, BankIndex::new(0))?;
+//!     let session = session.begin(&area, &mut numbers)?.perform_in(&mut area)?;
+//!     // .. here the image is written into the update bank ..
+//!     let session = session.commit(&area, guid, Acceptance::Unaccepted, &mut numbers)?.perform_in(&mut area)?;
+//!     let session = session.end(&area, &mut numbers)?.perform_in(&mut area)?;
+//!     assert_eq!(session.state(), SessionState::Restart);
+//!
+//!     // The device starts again, from bank 1, and the new image is found to be good.
+//!     let session = start_up(&area, BankIndex::new(1))?;
+//!     assert_eq!(session.state(), SessionState::Trial);
+//!     let session = session.accept(&area, guid, &mut numbers)?.perform_in(&mut area)?;
+//!     assert_eq!(session.state(), SessionState::Regular);
+//!     Ok(())
 //! }
 //! ```
+//!
+//! A device has its area in storage and writes each word there, in place of `perform_in`:
+//!
+//! ```
+//! # use meanderpeg::{Refusal, Session};
+//! # fn f(session: Session, area: &[u8], numbers: &mut [u32], storage: *mut u32) -> Result<(), Refusal> {
+//! let session = session.begin(area, numbers)?.perform(|offset, word| {
+//!     // one aligned write of a word, and it has landed before the next
+//!     unsafe { storage.add(offset / 4).write_volatile(word.to_le()) }
+//! });
+//! # Ok(()) }
+//! ```
+//!
+//! # What a caller must see to
+//!
+//! - Each store is one write that lands whole, before the next one starts ([`Answer::perform`]).
+//! - The area starts at a multiple of 4 of the storage, and no block of the device has bytes of both copies (DEN0118,
+//!   A3.2.1). Where calls are given a copy of it in RAM, `write` stores in the storage first, then in the copy, and
+//!   after a failure the copy is read anew.
+//! - Between a call and the end of its stores nobody else writes the area.
+//! - Each image is authenticated, and its last byte has landed for good, before [`Session::commit`]: the library looks
+//!   at form alone, and through a cache or a queue the stores of [`Session::end`] could land before the image.
+//! - The boot loader reads the record by the same rule (R20): copy 0 if it is sound, else copy 1; at the least it asks
+//!   for version 2 and not for the CRC alone. It starts no invalid bank, and `booted` is the one that it started: that
+//!   is believed.
+//! - There is enough stack, as include/meanderpeg.h tells for each function, together with what it says of the red zone
+//!   and of vector registers.
 #![no_std]
-#![deny(unsafe_code)]
-#![warn(missing_docs)]
+#![deny(unsafe_code, missing_docs)]
+#![cfg_attr(
+    not(test),
+    deny(
+        clippy::arithmetic_side_effects,
+        clippy::expect_used,
+        clippy::indexing_slicing,
+        clippy::panic,
+        clippy::string_slice,
+        clippy::todo,
+        clippy::unimplemented,
+        clippy::unreachable,
+        clippy::unwrap_used
+    )
+)]
 
-pub mod capsule;
+#[cfg(test)]
+extern crate std;
+
+mod capsule;
 mod gather;
+mod guid;
+#[cfg(test)]
+mod header;
 #[allow(unsafe_code)]
 mod raw;
+#[cfg(test)]
+mod raw_tests;
 mod record;
 mod refusal;
 mod session;
+mod store;
 
+pub use capsule::{Capsule, Item, ItemKind};
 pub use gather::{gather, Gathered};
-pub use raw::Store;
-pub use record::{sheet, soundness, Soundness};
+pub use guid::{Guid, GuidTextFault};
+pub use record::{report, soundness, Soundness};
 pub use refusal::Refusal;
-pub use session::{repair, start_up, Answer, Session};
+pub use session::{repair, start_up, Acceptance, Answer, BankIndex, Refused, Repair, Session, SessionState};
+pub use store::Store;
 
-/// "An area is 16,384 bytes: copy 0 at 0, copy 1 at 8,192."
+/// How many bytes an area has: copy 0 of the record starts at 0, copy 1 in the middle.
 pub const AREA_BYTES: usize = 16_384;
-/// "That slice must hold 4,200 numbers (2,100 pairs)."
+/// So many numbers hold the longest list of stores: 2,100 pairs.
 pub const STORE_NUMBERS: usize = 4_200;
-/// A slice of so many bytes holds every bench sheet.
-pub const SHEET_BYTES: usize = 4_096;
-
-impl Store {
-    /// Does the store: "each puts its word into the four bytes at its offset". Panics if the area ends before them, as no area
-    /// does that the list was made for.
-    pub fn apply(&self, area: &mut [u8]) {
-        let at = self.offset as usize;
-        area[at..at + 4].copy_from_slice(&self.word.to_le_bytes());
-    }
-}
+/// So many bytes hold every report.
+pub const REPORT_BYTES: usize = 4_096;

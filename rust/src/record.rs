@@ -1,33 +1,35 @@
-//! "The record" and "The bench sheet": what an area holds.
+//! What an area holds: the soundness of both copies (rules R), and the report (rules T).
 
 use crate::{raw, Refusal};
 
-/// Which copies are sound, and whether both are and are equal.
-#[derive(Clone, Copy, PartialEq, Eq, Debug)]
+/// Which copies of the record are sound, and whether both are and are equal.
+#[derive(Clone, Copy, PartialEq, Eq, Hash, Debug)]
+#[non_exhaustive]
 pub struct Soundness {
     /// Copy 0 is sound.
     pub copy_0: bool,
     /// Copy 1 is sound.
     pub copy_1: bool,
-    /// Both are, and "Copies are equal if their records are, byte for byte."
+    /// Both are, and their records are equal, byte for byte (R21): what each of the six calls needs.
     pub equal: bool,
 }
 
-/// Asks the fourteen rules of both copies. Refusal 20.
+/// Asks of both copies of the area whether they meet the rules of a sound record (R5 to R19). Refusal 20.
 pub fn soundness(area: &[u8]) -> Result<Soundness, Refusal> {
     let mut copies = 0;
-    match Refusal::of(raw::soundness(area, &mut copies), 0) {
-        None => Ok(Soundness { copy_0: copies & 1 == 1, copy_1: copies & 2 == 2, equal: copies & 4 == 4 }),
-        Some(refusal) => Err(refusal),
-    }
+    Refusal::of(raw::soundness(area, &mut copies), 0)?;
+    Ok(Soundness { copy_0: copies & 1 == 1, copy_1: copies & 2 == 2, equal: copies & 4 == 4 })
 }
 
-/// The bench sheet of an area, at the front of `report_text`, of which every byte past it stays. A refused area has a sheet too:
-/// `refused`, tab, number (20 or 21). None, with `report_text` as it was, if `report_text` has less than 4,096 bytes.
-pub fn sheet<'a>(area: &[u8], text: &'a mut [u8]) -> Option<&'a str> {
-    let length = raw::sheet(area, text);
+/// The report of an area as text, at the front of `text`, of which every byte past it stays: tab-parted lines that tell
+/// which copy is read, the active and the previous bank, each bank's state and which images are accepted (T1 to T6).
+///
+/// A refused area has a report too: `refused`, a tab and the number (20 or 21). None, with `text` as it was, if `text`
+/// has less than [`REPORT_BYTES`](crate::REPORT_BYTES) (T7).
+pub fn report<'t>(area: &[u8], text: &'t mut [u8]) -> Option<&'t str> {
+    let length = raw::report(area, text);
     if length == 0 {
         return None;
     }
-    Some(core::str::from_utf8(&text[..length]).expect("a sheet is ASCII"))
+    core::str::from_utf8(text.get(..length)?).ok()
 }

@@ -1,5 +1,5 @@
-//! Each entry of the library against the second implementation on 10,000 inputs, and that these reach every refusal and every
-//! accepted case. `cargo run --release --example compare` prints the tallies, for any seed and number of inputs.
+//! Each entry of the library against the second implementation on 10,000 inputs, and that these reach every refusal and
+//! every accepted case. `cargo run --release --example compare` prints the tallies, for any seed and number of inputs.
 
 mod compare;
 
@@ -75,6 +75,6 @@ fn soundness() {
 }
 
 #[test]
-fn sheet() {
-    agrees("sheet");
+fn report() {
+    agrees("report");
 }

@@ -1,5 +1,5 @@
-//! "Lengths add up to at most 16,777,216": that limit and its neighbours in windows that have room for the blocks, which the gate's programs
-//! have no memory for.
+//! The limit of 16,777,216 bytes (G10) and its neighbours, in windows that have room for the blocks, which the programs
+//! of the proved language have no memory for.
 
 use meanderpeg::gather;
 
@@ -8,11 +8,18 @@ const BLOCK: usize = 4_000;
 const LENGTH: usize = 131_072;
 const LIMIT: usize = 16_777_216;
 
-/// A window of so many bytes: 128 descriptors of one and the same block, the last of them of another length, and the end.
+/// A window of so many bytes: 128 descriptors of one and the same block, the last of them of another length, and the
+/// end.
 fn window(length: usize, last: usize) -> Vec<u8> {
     let mut bytes: Vec<u8> = (0..length).map(|i| (7 * i + 13 * (i / 256)) as u8).collect();
     for i in 0..129 {
-        let size = if i < 127 { LENGTH } else if i == 127 { last } else { 0 };
+        let size = if i < 127 {
+            LENGTH
+        } else if i == 127 {
+            last
+        } else {
+            0
+        };
         let address = if i < 128 { BASE + BLOCK as u64 } else { 0 };
         bytes[16 * i..16 * i + 8].copy_from_slice(&(size as u64).to_le_bytes());
         bytes[16 * i + 8..16 * i + 16].copy_from_slice(&address.to_le_bytes());
@@ -27,7 +34,8 @@ fn gathered(last: usize) {
     let answer = gather(&mut lent, BASE, BASE).expect("a total within the limit");
     let total = 127 * LENGTH + last;
     let place = BLOCK + LENGTH;
-    assert_eq!((answer.address, answer.total), (BASE + place as u64, total as u64));
+    assert_eq!((answer.address(), answer.bytes().len()), (BASE + place as u64, total));
+    assert_eq!(answer.range(), place..place + total);
     let mut wanted = before.clone();
     for i in 0..128 {
         let size = if i < 127 { LENGTH } else { last };
@@ -40,7 +48,7 @@ fn gathered(last: usize) {
 fn refused(length: usize, last: usize, number: u32) {
     let mut lent = window(length, last);
     let before = lent.clone();
-    assert_eq!(gather(&mut lent, BASE, BASE).map_err(|refusal| refusal.number()), Err(number));
+    assert_eq!(gather(&mut lent, BASE, BASE).map(|g| g.address()).map_err(|refusal| refusal.number()), Err(number));
     assert!(lent == before, "a refusal alters no byte");
 }
 

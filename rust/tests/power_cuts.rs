@@ -1,8 +1,10 @@
-//! Demand 3 on samples: an accepted change cut after any number of its stores, or any other area with a sound copy, then a list of
-//! start-ups and repairs, refused ones included, each repair cut at any store. `examples/power_cuts.rs` cuts by killing a process.
+//! The power-cut rules (P1 to P12) on samples: an accepted change cut after any number of its stores, or any other area
+//! with a sound copy, then a list of start-ups and repairs, refused ones included, each repair cut at any store.
+//! `examples/power_cuts.rs` cuts by killing a process.
 
 mod compare;
 
+use meanderpeg::BankIndex;
 use second::answers::call_answer;
 use second::inputs::{call_input, sound_plan, Draw, SAME_CRC};
 use second::make::{make_area, record_bytes};
@@ -16,12 +18,14 @@ fn read(area: &[u8]) -> Vec<u8> {
     record_read(area).expect("a sound copy").1
 }
 
-/// Start-up answers for the record read what document 01 gives for it, with every booted bank and with none.
+/// Start-up answers for the record read what the rules give for it (S2, P3), with every booted bank and with none.
 fn starts_up(area: &[u8], name: &str) {
     for booted in (0..=banks(&read(area)) as u32).chain([u32::MAX]) {
         let wanted = plain::start_up(area, booted);
-        match meanderpeg::start_up(area, booted) {
-            Ok(session) => assert_eq!((0, compare::session_of(wanted.session)), (wanted.refusal, session), "{name}"),
+        match meanderpeg::start_up(area, BankIndex::new(booted)) {
+            Ok(session) => {
+                assert_eq!((0, compare::state_of(wanted.session)), (wanted.refusal, session.state()), "{name}");
+            }
             Err(refusal) => assert_eq!(refusal.number(), wanted.refusal, "{name}"),
         }
     }
@@ -29,7 +33,7 @@ fn starts_up(area: &[u8], name: &str) {
 
 fn repair_list(area: &[u8], numbers: usize) -> Option<Vec<(u32, u32)>> {
     let mut slice = vec![0; numbers];
-    meanderpeg::repair(area, &mut slice).ok().map(compare::pairs_of)
+    meanderpeg::repair(area, &mut slice).ok().map(|repair| compare::pairs_of(repair.stores()))
 }
 
 /// Every cut of a change, and from each the whole repair with each of its own cuts.
@@ -44,7 +48,7 @@ fn every_cut_and_every_cut_of_its_repair() {
             continue;
         }
         let mut numbers = [0; meanderpeg::STORE_NUMBERS];
-        let pairs = compare::pairs_of(compare::answer_of(call, &input, &mut numbers).stores);
+        let pairs = compare::listed(call, &input, &mut numbers);
         changes += 1;
         for n in 0..=pairs.len() {
             let name = format!("call {call}, input {k}, cut after {n}");
@@ -89,7 +93,7 @@ fn lists_of_start_ups_and_repairs() {
         let mut numbers = [0; meanderpeg::STORE_NUMBERS];
         let pairs = match call {
             1 => vec![],
-            _ => compare::pairs_of(compare::answer_of(call, &input, &mut numbers).stores),
+            _ => compare::listed(call, &input, &mut numbers),
         };
         let mut area = apply(&input.area, &pairs[..draw.below(pairs.len() as u64 + 1) as usize]);
         let Some((_, first)) = record_read(&area) else { continue };
@@ -109,8 +113,9 @@ fn lists_of_start_ups_and_repairs() {
     assert!(lists >= 4_000 && finished_lists >= 1_000 && finished_lists < lists);
 }
 
-/// "This may not rest on a checksum being unlikely to match": copy 0 is not sound, yet holds another record with the same CRC as
-/// copy 1's, but for its version or for the CRC field, so that one store could make it sound. A repair must not read it meanwhile.
+/// Nothing rests on a checksum being unlikely to match (P12): copy 0 is not sound, yet holds another record with the
+/// same CRC as copy 1's, but for its version or for the CRC field, so that one store could make it sound. A repair must
+/// not read it meanwhile.
 #[test]
 fn another_record_with_the_same_checksum() {
     for k in 0..2_000 {

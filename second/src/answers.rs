@@ -1,5 +1,5 @@
-//! One input of one entry, answered: its input and its answer go into two digests, its outcome into a tally. The order in
-//! which numbers are taken is told in GENERATORS.md, "The digest".
+//! One input of one entry, answered: its input and its answer go into two digests, its outcome into a tally. The order
+//! in which numbers are taken is told in GENERATORS.md, "The digest".
 
 use crate::capsule;
 use crate::digest::{Digest, Tally};
@@ -7,7 +7,7 @@ use crate::gather::gather;
 use crate::inputs::*;
 use crate::record;
 use crate::session::*;
-use crate::sheet::{sheet, sheet_in, SHEET_BYTES};
+use crate::report::{report, report_in, REPORT_BYTES};
 
 /// The entries, by name, in the order in which they are reported. The last has no place in the comparison with
 /// crates/test_random, which asks for soundness instead: the product's interface tells no failing rule's number.
@@ -22,7 +22,7 @@ pub const ENTRIES: [&str; 13] = [
     "cancel",
     "accept",
     "select_previous",
-    "sheet",
+    "report",
     "soundness",
     "rules",
 ];
@@ -100,7 +100,7 @@ pub fn outcomes(entry: &str) -> Vec<String> {
                 "kind above 4",
             ],
         ),
-        "sheet" => (&[], &["refused 20", "refused 21", "record 0", "record 1", "slice too short"]),
+        "report" => (&[], &["refused 20", "refused 21", "record 0", "record 1", "slice too short"]),
         "soundness" => (&[20], &SOUNDNESS),
         _ => (&[], &[]),
     };
@@ -135,7 +135,7 @@ pub fn answer(entry: &str, seed: u64, k: u64, account: &mut Account) -> String {
     match entry {
         "gather" => answer_gather(seed, k, account),
         "capsule" => answer_capsule(seed, k, account),
-        "sheet" => answer_sheet(seed, k, account),
+        "report" => answer_report(seed, k, account),
         "soundness" => answer_soundness(seed, k, account),
         "rules" => answer_rules(seed, k, account),
         _ => {
@@ -233,7 +233,7 @@ fn take_session(digest: &mut Digest, (kind, bank, set): (u32, u32, u32)) {
     digest.word(set);
 }
 
-/// The session's three numbers after the call: "the session as it was" with a refusal, else those of the next one.
+/// The session's three numbers after the call: with a refusal as they were (N106), else those of the next one.
 pub fn raw_after(input: &CallInput, answer: &Answer) -> (u32, u32, u32) {
     if answer.refusal > 0 {
         input.raw
@@ -284,9 +284,9 @@ fn answer_call(call: u64, seed: u64, k: u64, account: &mut Account) -> String {
         account.answers.word(if repair_lists_none(&input.area, input.slice_len) { 1 } else { 0 });
     }
     if call >= 1 {
-        // "Numbers past the list stay": none is altered.
+        // R23: no number past the list is altered.
         account.answers.word(0);
-        // "Offsets are multiples of 4 inside one of the two record ranges": none is another.
+        // R25: no offset lies anywhere else.
         account.answers.word(0);
         // The list has at most 2,100 pairs.
         account.answers.word(0);
@@ -310,22 +310,22 @@ fn answer_call(call: u64, seed: u64, k: u64, account: &mut Account) -> String {
     )
 }
 
-/// The buffer whose first bytes are lent for a sheet, and what each of its bytes holds before.
-const SHEET_BUFFER: usize = 4_352;
-const SHEET_FILL: u8 = 99;
+/// The buffer whose first bytes are lent for a report, and what each of its bytes holds before.
+const REPORT_BUFFER: usize = 4_352;
+const REPORT_FILL: u8 = 99;
 
-/// The sheet of the area that input k of start-up holds, in a lent slice.
-fn answer_sheet(seed: u64, k: u64, account: &mut Account) -> String {
-    let input = sheet_input(seed, k);
+/// The report of the area that input k of start-up holds, in a lent slice.
+fn answer_report(seed: u64, k: u64, account: &mut Account) -> String {
+    let input = report_input(seed, k);
     account.inputs.bytes(&input.area);
     account.inputs.word(input.slice_len as u32);
-    let mut buffer = [SHEET_FILL; SHEET_BUFFER];
-    let count = sheet_in(&input.area, &mut buffer[..input.slice_len]);
+    let mut buffer = [REPORT_FILL; REPORT_BUFFER];
+    let count = report_in(&input.area, &mut buffer[..input.slice_len]);
     account.answers.word(count as u32);
     account.answers.bytes(&buffer);
-    let text = sheet(&input.area);
+    let text = report(&input.area);
     let first = text.lines().next().unwrap_or("");
-    if input.slice_len < SHEET_BYTES {
+    if input.slice_len < REPORT_BYTES {
         account.tally.add("slice too short");
     } else {
         account.tally.add(&first.split('\t').take(2).collect::<Vec<_>>().join(" "));
@@ -333,8 +333,8 @@ fn answer_sheet(seed: u64, k: u64, account: &mut Account) -> String {
     format!("slice of {} bytes, {count} answered:\n{text}", input.slice_len)
 }
 
-/// The soundness of the area that input k of repair holds: 1 for copy 0, 2 for copy 1, 4 where both are sound and equal, added;
-/// 20 and 99 where it isn't 16,384 bytes.
+/// The soundness of the area that input k of repair holds: 1 for copy 0, 2 for copy 1, 4 where both are sound and
+/// equal, added; 20 and 99 where it isn't 16,384 bytes.
 fn answer_soundness(seed: u64, k: u64, account: &mut Account) -> String {
     let area = call_input(1, seed, k).area;
     account.inputs.bytes(&area);

@@ -1,4 +1,4 @@
-//! Numbers in byte slices. Document 01, first paragraph: numbers are little-endian, a GUID is 16 bytes.
+//! Numbers in byte slices: little-endian (N101).
 
 /// The little-endian number of `width` bytes at `at`. A byte past the slice's end counts as 0; no answer rests on that,
 /// since every caller that can meet a short slice tests its length as well.

@@ -1,4 +1,4 @@
-//! Document 01, "The capsule". Widths that it does not give are those of UEFI 2.10, 23.3 (document 001).
+//! The capsule (rules C). Widths that they do not give are those of UEFI 2.10, 23.3.
 
 use crate::bytes::{guid, number};
 
@@ -8,7 +8,7 @@ pub const FMP_GUID: [u8; 16] = [
 ];
 pub const PERSIST: u128 = 0x0001_0000;
 pub const RESET: u128 = 0x0004_0000;
-/// "Items number 0 to 64."
+/// C9.
 pub const MOST_ITEMS: u128 = 64;
 
 fn header_size(capsule: &[u8]) -> u128 {
@@ -23,7 +23,7 @@ fn image_size(capsule: &[u8]) -> u128 {
     number(capsule, 24, 4)
 }
 
-/// "The body starts at HeaderSize."
+/// C6: the body starts at HeaderSize.
 fn body(capsule: &[u8]) -> &[u8] {
     &capsule[header_size(capsule) as usize..]
 }
@@ -45,7 +45,7 @@ fn offset(body: &[u8], item: u128) -> u128 {
     number(body, 8 + 8 * item, 8)
 }
 
-/// "An item ends where the next begins, or with the body."
+/// C12.
 fn item_end(body: &[u8], item: u128) -> u128 {
     if item + 1 < items(body) {
         offset(body, item + 1)
@@ -54,13 +54,13 @@ fn item_end(body: &[u8], item: u128) -> u128 {
     }
 }
 
-/// Refusal 14: "body below 8 bytes, its version, count or offsets".
+/// Refusal 14 (N14).
 fn body_good(body: &[u8]) -> bool {
     let length = body.len() as u128;
     if length < 8 || number(body, 0, 4) != 1 || items(body) > MOST_ITEMS {
         return false;
     }
-    // "Offsets rise strictly, start at or after the list's end and lie below the body's length." A list that passes the
+    // C10, C11. A list that passes the
     // body's end leaves no room for such an offset, so it is refused before it is read.
     let count = items(body);
     let list_end = 8 + 8 * count;
@@ -88,7 +88,7 @@ fn payload_header(version: u128) -> Option<u128> {
     }
 }
 
-/// "So 32 or 40 bytes, then the image, then the vendor code. All must fit in the item; spare bytes are allowed."
+/// C15, C16.
 fn payload_good(item: &[u8]) -> bool {
     let length = item.len() as u128;
     if length < 4 {
@@ -100,17 +100,17 @@ fn payload_good(item: &[u8]) -> bool {
     }
 }
 
-/// The refusal of the capsule as a whole, 10 to 15, or 0: "within capsules by number".
+/// The refusal of the capsule as a whole, 10 to 15 by number (N109), or 0.
 pub fn capsule_refusal(capsule: &[u8]) -> u32 {
     let length = capsule.len() as u128;
     if length < 28 {
         return 10;
     }
-    // "HeaderSize is at least 28 and at most CapsuleImageSize, which equals the length given."
+    // C2, C3.
     if header_size(capsule) < 28 || header_size(capsule) > image_size(capsule) || image_size(capsule) != length {
         return 11;
     }
-    // "Flag 0x00040000 (reset) needs 0x00010000 (persist). Other flags are free."
+    // C4.
     if flags(capsule) & RESET != 0 && flags(capsule) & PERSIST == 0 {
         return 12;
     }
@@ -121,7 +121,7 @@ pub fn capsule_refusal(capsule: &[u8]) -> u32 {
     if !body_good(body) {
         return 14;
     }
-    // "Every item is checked before any is handed out." Drivers come first in the list and hold nothing to check.
+    // C22. Drivers come first in the list and hold nothing to check.
     for item in drivers(body)..items(body) {
         let part = &body[offset(body, item) as usize..item_end(body, item) as usize];
         if !payload_good(part) {
@@ -131,7 +131,7 @@ pub fn capsule_refusal(capsule: &[u8]) -> u32 {
     0
 }
 
-/// The refusal for one item, or 0: "15 a payload at fault; 16 no item of that number". 15 comes first, whatever is asked.
+/// The refusal for one item, or 0. 15 comes before 16, whatever is asked (C22).
 pub fn refusal(capsule: &[u8], item: u64) -> u32 {
     let whole = capsule_refusal(capsule);
     if whole != 0 {
@@ -169,8 +169,7 @@ pub fn image(capsule: &[u8], item_number: u64) -> (u64, u64) {
     (start + header, number(part, 24, 4) as u64)
 }
 
-/// Start and length of the vendor code, right behind the image. "A driver's vendor code is the empty part at its item's
-/// end."
+/// Start and length of the vendor code, right behind the image; a driver's is empty (C20).
 pub fn vendor_code(capsule: &[u8], item_number: u64) -> (u64, u64) {
     if refusal(capsule, item_number) != 0 {
         return (0, 0);
@@ -184,7 +183,7 @@ pub fn vendor_code(capsule: &[u8], item_number: u64) -> (u64, u64) {
     (image_start + image_length, number(part, 28, 4) as u64)
 }
 
-/// "Type GUID, index and instance are shown too: version 1 shows instance 0, a driver or a refusal all zeros."
+/// Type GUID, index and instance (C21).
 pub fn shown(capsule: &[u8], item_number: u64) -> ([u8; 16], u8, u64) {
     if refusal(capsule, item_number) != 0 || is_driver(capsule, item_number) {
         return ([0; 16], 0, 0);

@@ -1,10 +1,10 @@
-//! Document 01, "The window and the scattered list".
+//! Gathering (rules G).
 
 use crate::bytes::number;
 
-/// "At most 256 descriptors are read, jumps and the end included."
+/// G9.
 pub const MOST_DESCRIPTORS: usize = 256;
-/// "Lengths add up to at most 16,777,216."
+/// G10.
 pub const MOST_TOTAL: u128 = 16_777_216;
 /// A descriptor is 16 bytes: Length, then Address, 64 bits each.
 pub const DESCRIPTOR: u128 = 16;
@@ -29,7 +29,7 @@ pub fn read_list(window: &[u8], base: u64, first: u64) -> Result<Listed, u32> {
     let mut total: u128 = 0;
     let mut at = first as u128;
     loop {
-        // "For each descriptor: count (2), address (3), block (4), total (5), in list order; the first fault is the answer."
+        // N108: of each descriptor 2, 3, 4, 5 in list order; the first fault is the answer.
         if descriptors.len() == MOST_DESCRIPTORS {
             return Err(2);
         }
@@ -41,7 +41,7 @@ pub fn read_list(window: &[u8], base: u64, first: u64) -> Result<Listed, u32> {
         let length = number(window, at - low, 8);
         let address = number(window, at - low + 8, 8);
         if length > 0 {
-            // A data block. It "must lie wholly in the window"; both ends count.
+            // A block (G3). Both of its ends are tested (G8).
             if address < low || address + length > high {
                 return Err(4);
             }
@@ -52,7 +52,7 @@ pub fn read_list(window: &[u8], base: u64, first: u64) -> Result<Listed, u32> {
             blocks.push((address, length));
             at += DESCRIPTOR;
         } else if address > 0 {
-            // "Go on at Address."
+            // G4.
             at = address;
         } else {
             // Both 0: end.
@@ -61,8 +61,8 @@ pub fn read_list(window: &[u8], base: u64, first: u64) -> Result<Listed, u32> {
     }
 }
 
-/// The lowest offset whose range of `total` bytes lies in the window and holds no used byte. One pass upwards: the first
-/// time that `total` free bytes stand in a row, the row's start is the lowest such offset.
+/// The lowest offset whose range of `total` bytes lies in the window and holds no used byte. One pass upwards: the
+/// first time that `total` free bytes stand in a row, the row's start is the lowest such offset.
 pub fn lowest_free(used: &[bool], total: u128) -> Option<u128> {
     let mut row: u128 = 0;
     for i in 0..used.len() {
@@ -77,7 +77,7 @@ pub fn lowest_free(used: &[bool], total: u128) -> Option<u128> {
 /// Gathers the scattered list. Answers the place and the total, or the refusal; a refusal changes no byte.
 pub fn gather(window: &mut [u8], base: u64, first: u64) -> Result<(u64, u64), u32> {
     let listed = read_list(window, base, first)?;
-    // "Then 6, then 7."
+    // N108: then 6, then 7.
     if listed.total == 0 {
         return Err(6);
     }
@@ -95,7 +95,7 @@ pub fn gather(window: &mut [u8], base: u64, first: u64) -> Result<(u64, u64), u3
         Some(place) => place,
         None => return Err(7),
     };
-    // Demand 2: the blocks, in list order, at the place. "Bytes outside it stay."
+    // G13, G14.
     let mut gathered: Vec<u8> = Vec::new();
     for &(address, length) in &listed.blocks {
         let from = (address - low) as usize;

@@ -1,5 +1,5 @@
-//! Inputs that are nearly right, the k-th of a seed for each group of entries. GENERATORS.md gives the same as a recipe,
-//! step by step with the order of draws, so that it can be written again elsewhere.
+//! Inputs that are nearly right, the k-th of a seed for each group of entries. GENERATORS.md gives the same as a
+//! recipe, step by step with the order of draws, so that it can be written again elsewhere.
 
 use crate::bytes::put;
 use crate::capsule::FMP_GUID;
@@ -768,18 +768,18 @@ fn put_words(copy: &mut [u8], record: &[u8], words: usize) {
     copy[..4 * words].copy_from_slice(&record[..4 * words]);
 }
 
-/// Input k of the bench sheet: an area and the length of the slice lent.
+/// Input k of the report: an area and the length of the slice lent.
 #[derive(Clone, Debug)]
-pub struct SheetInput {
+pub struct ReportInput {
     pub area: Vec<u8>,
     pub slice_len: usize,
 }
 
 /// The area of start-up's input k; the draws go on where that input's ended.
-pub fn sheet_input(seed: u64, k: u64) -> SheetInput {
+pub fn report_input(seed: u64, k: u64) -> ReportInput {
     let (input, mut d) = call_input_and_draw(0, seed, k);
     let s = d.below(8) as usize;
-    SheetInput { area: input.area, slice_len: if s < 4 { [0, 4_095, 4_097, 4_200][s] } else { 4_096 } }
+    ReportInput { area: input.area, slice_len: if s < 4 { [0, 4_095, 4_097, 4_200][s] } else { 4_096 } }
 }
 
 /// Input k of a call: 0 start-up, 1 repair, 2 Begin, 3 Commit, 4 End, 5 Cancel, 6 Accept, 7 Select previous.

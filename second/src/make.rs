@@ -17,7 +17,7 @@ pub struct RecordPlan {
     pub guid_place: usize,
 }
 
-/// Image i's type GUID: byte j is 160 + j, but byte `gather_place` is i. So two of them differ in one byte.
+/// Image i's type GUID: byte j is 160 + j, but byte `place` is i. So two of them differ in one byte.
 pub fn type_guid_for(image: usize, place: usize) -> [u8; 16] {
     let mut guid = [0u8; 16];
     for j in 0..16 {
@@ -27,9 +27,9 @@ pub fn type_guid_for(image: usize, place: usize) -> [u8; 16] {
     guid
 }
 
-/// The record of a plan, with its CRC. Sound where the plan keeps the rules.
-/// A plan may pass the limits by one: in a fifth bank no image is accepted, a 33rd image is accepted where image 0 is.
-/// Location GUID of image i: byte j is (16 i + j) mod 256. Image GUID of image i in bank b: byte j is (4 i + b + 17 j) mod 256.
+/// The record of a plan, with its CRC. Sound where the plan keeps the rules. A plan may pass the limits by one: in a
+/// fifth bank no image is accepted, a 33rd image is accepted where image 0 is. Location GUID of image i: byte j is (16
+/// i + j) mod 256. Image GUID of image i in bank b: byte j is (4 i + b + 17 j) mod 256.
 pub fn record_bytes(plan: &RecordPlan) -> Vec<u8> {
     with_crc(laid_out(plan, 32 + 24 * plan.banks, 24))
 }
@@ -106,8 +106,8 @@ pub fn make_area(zero: &[u8], one: &[u8], tint: usize) -> Vec<u8> {
     area
 }
 
-/// Works the CRC of a copy anew over bytes 4 to n, n being the lower 16 bits of its size field, where n is 40 to 8,192; else
-/// leaves it.
+/// Works the CRC of a copy anew over bytes 4 to n, n being the lower 16 bits of its size field, where n is 40 to 8,192;
+/// else leaves it.
 pub fn renew_crc(copy: &mut [u8]) {
     let size = crate::bytes::number(copy, 16, 2);
     if (40..=8192).contains(&size) {

@@ -1,8 +1,8 @@
-//! Document 01, "The record".
+//! The record (rules R).
 
 use crate::bytes::{guid, number, put};
 
-/// "An area is 16,384 bytes: copy 0 at 0, copy 1 at 8,192."
+/// R1.
 pub const AREA: usize = 16_384;
 pub const COPY: usize = 8_192;
 
@@ -10,7 +10,7 @@ pub const INVALID: u8 = 255;
 pub const VALID: u8 = 254;
 pub const ACCEPTED: u8 = 252;
 
-/// "CRC-32 is the GPT's (reflected, 0xEDB88320, start and final exclusive-or all ones)", bit by bit.
+/// R4, bit by bit.
 pub fn crc32(bytes: &[u8]) -> u32 {
     let mut state: u32 = 0xFFFF_FFFF;
     for &byte in bytes {
@@ -62,8 +62,7 @@ pub fn bank_entry_size(copy: &[u8]) -> u128 {
     number(copy, 38, 2)
 }
 
-/// Where image `image`'s entry starts. "Entries start at 40: type GUID, location GUID, then per bank 24 bytes of image
-/// GUID, accepted (32 bits), reserved (32 bits)."
+/// Where image `image`'s entry starts (R3).
 pub fn entry(copy: &[u8], image: u128) -> u128 {
     40 + image * (32 + 24 * banks(copy))
 }
@@ -84,7 +83,7 @@ pub fn all_accepted(copy: &[u8], bank: u128) -> bool {
     (0..images(copy)).all(|image| accepted(copy, image, bank) == 1)
 }
 
-// "A copy is sound exactly if": fourteen rules, as the semicolons part the list. A rule is asked only where those before
+// R5: fourteen rules, R6 to R19. A rule is asked only where those before
 // it hold.
 
 fn rule_1_version(copy: &[u8]) -> bool {
@@ -140,7 +139,7 @@ fn rule_13_states_fit(copy: &[u8]) -> bool {
     });
     fits && state(copy, active(copy)) != INVALID
 }
-/// "Over bytes 4 to size."
+/// R4: over bytes 4 to size.
 fn rule_14_crc(copy: &[u8]) -> bool {
     crc32(&copy[4..size(copy) as usize]) as u128 == stored_crc(copy)
 }
@@ -187,7 +186,7 @@ pub fn record_of(copy: &[u8]) -> &[u8] {
     &copy[..size(copy) as usize]
 }
 
-/// "The record read is copy 0 if sound, else copy 1 if sound." None where no copy is, or the area is of another length.
+/// The record read (R20). None where no copy is sound, or the area is of another length.
 pub fn record_read(area: &[u8]) -> Option<(u32, Vec<u8>)> {
     if area.len() != AREA {
         return None;
@@ -201,7 +200,7 @@ pub fn record_read(area: &[u8]) -> Option<(u32, Vec<u8>)> {
     None
 }
 
-/// "Copies are equal if their records are, byte for byte." Asked of two sound copies; bytes behind a record don't count.
+/// R21. Asked of two sound copies; bytes behind a record don't count.
 pub fn both_sound_and_equal(area: &[u8]) -> bool {
     if area.len() != AREA {
         return false;

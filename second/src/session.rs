@@ -1,13 +1,13 @@
-//! Document 01, "Session and calls" and "When the bench says no". Which stores a call lists is open, so none is listed
+//! Sessions and calls (rules S) with their refusals (N110). Which stores a call lists was open, so none is listed
 //! here: an answer holds the new record and the area after all stores.
 
 use crate::bytes::put;
 use crate::record::*;
 
-/// "That slice must hold 4,200 numbers (2,100 pairs)."
+/// R24.
 pub const STORE_NUMBERS: u64 = 4_200;
 
-/// "Five session states ... Staging carries its bank and a 32-bit set of committed images."
+/// S1.
 #[derive(Clone, Copy, PartialEq, Eq, Debug)]
 pub enum Session {
     Regular,
@@ -58,21 +58,20 @@ fn refused(session: Session, area: &[u8], refusal: u32) -> Answer {
     Answer { session, refusal, missing: 0, record: None, area: area.to_vec() }
 }
 
-/// "After all stores both copies hold the new record and every other byte of the area is as before."
-fn accepted_change(session: Session, area: &[u8], new: Vec<u8>) -> Answer {
+/// R26.
+fn passed_change(session: Session, area: &[u8], new: Vec<u8>) -> Answer {
     let mut after = area.to_vec();
     after[..new.len()].copy_from_slice(&new);
     after[COPY..COPY + new.len()].copy_from_slice(&new);
     Answer { session, refusal: 0, missing: 0, record: Some(new), area: after }
 }
 
-/// "The update bank is (active + 1) mod banks."
+/// S4.
 pub fn update_bank(active: u128, banks: u128) -> u128 {
     (active + 1) % banks
 }
 
-/// "Start-up is given the bank that booted: Fallback if it isn't the active one, else Regular if the active bank is 252,
-/// else Trial." Refusals 20, 21, 28.
+/// Start-up (S2). Refusals 20, 21, 28.
 pub fn start_up(area: &[u8], booted: u32) -> Answer {
     if area.len() != AREA {
         return refused(Session::Restart, area, 20);
@@ -94,7 +93,7 @@ pub fn start_up(area: &[u8], booted: u32) -> Answer {
     Answer { session, refusal: 0, missing: 0, record: Some(record), area: area.to_vec() }
 }
 
-/// "None if the copies are sound and equal, else the record read goes into the other copy." Refusals 20, 23, 21.
+/// Repair (R27). Refusals 20, 23, 21.
 pub fn repair(area: &[u8], slice_len: u64) -> Answer {
     if area.len() != AREA {
         return refused(Session::Restart, area, 20);
@@ -114,7 +113,7 @@ pub fn repair(area: &[u8], slice_len: u64) -> Answer {
     Answer { session: Session::Restart, refusal: 0, missing: 0, record: Some(record), area: after }
 }
 
-/// Whether repair's list is empty: "none if the copies are sound and equal". A refused repair has no list at all.
+/// Whether repair's list is empty (R27). A refused repair has no list at all.
 pub fn repair_lists_none(area: &[u8], slice_len: u64) -> bool {
     repair(area, slice_len).refusal == 0 && both_sound_and_equal(area)
 }
@@ -134,7 +133,7 @@ fn old_record(session: Session, area: &[u8], slice_len: u64) -> Result<Vec<u8>, 
     if !both_sound_and_equal(area) {
         return Err(22);
     }
-    // 24: "Staging whose bank isn't the update bank or isn't 255, or a set bit at or past the image count".
+    // N24.
     if let Session::Staging { bank, set } = session {
         if bank as u128 != update_bank(active(&record), banks(&record)) {
             return Err(24);
@@ -169,7 +168,7 @@ fn set_state(record: &mut [u8], bank: u128, value: u8) {
     record[24 + bank as usize] = value;
 }
 
-/// "Begin (Regular, Staging): the update bank ... becomes 255 with all images unaccepted; the set is empty."
+/// Begin (S5, S6).
 pub fn begin(session: Session, area: &[u8], slice_len: u64) -> Answer {
     let mut record = match old_record(session, area, slice_len) {
         Err(number) => return refused(session, area, number),
@@ -184,11 +183,10 @@ pub fn begin(session: Session, area: &[u8], slice_len: u64) -> Answer {
     for image in 0..images(&record) {
         set_accepted(&mut record, image, bank, 0);
     }
-    accepted_change(Session::Staging { bank: bank as u32, set: 0 }, area, with_crc(record))
+    passed_change(Session::Staging { bank: bank as u32, set: 0 }, area, with_crc(record))
 }
 
-/// "Commit (Staging), by type GUID and a request: 0 marks it accepted, above 0 unaccepted; it joins the set. A repeat: the
-/// later stands."
+/// Commit (S7, S8).
 pub fn commit(session: Session, area: &[u8], slice_len: u64, wanted: &[u8; 16], request: u32) -> Answer {
     let mut record = match old_record(session, area, slice_len) {
         Err(number) => return refused(session, area, number),
@@ -203,11 +201,10 @@ pub fn commit(session: Session, area: &[u8], slice_len: u64, wanted: &[u8; 16], 
         Some(image) => image,
     };
     set_accepted(&mut record, image, bank as u128, if request == 0 { 1 } else { 0 });
-    accepted_change(Session::Staging { bank, set: set | (1 << image) }, area, with_crc(record))
+    passed_change(Session::Staging { bank, set: set | (1 << image) }, area, with_crc(record))
 }
 
-/// "End (Staging): every image must be in the set; a refusal tells how many are missing. The bank becomes 252 if all are
-/// accepted, else 254. Previous takes active, active takes the update bank (002, A4.1). Restart."
+/// End (S9, S10; DEN0118, A4.1).
 pub fn end(session: Session, area: &[u8], slice_len: u64) -> Answer {
     let mut record = match old_record(session, area, slice_len) {
         Err(number) => return refused(session, area, number),
@@ -226,10 +223,10 @@ pub fn end(session: Session, area: &[u8], slice_len: u64) -> Answer {
     let was_active = active(&record);
     put(&mut record, 12, 4, was_active);
     put(&mut record, 8, 4, bank);
-    accepted_change(Session::Restart, area, with_crc(record))
+    passed_change(Session::Restart, area, with_crc(record))
 }
 
-/// "Cancel (Staging): Regular; Cancel itself changes nothing in the record, so that bank stays 255."
+/// Cancel (S11).
 pub fn cancel(session: Session, area: &[u8], slice_len: u64) -> Answer {
     let record = match old_record(session, area, slice_len) {
         Err(number) => return refused(session, area, number),
@@ -239,12 +236,10 @@ pub fn cancel(session: Session, area: &[u8], slice_len: u64) -> Answer {
         Session::Staging { .. } => {}
         _ => return refused(session, area, 25),
     }
-    accepted_change(Session::Regular, area, record)
+    passed_change(Session::Regular, area, record)
 }
 
-/// "Accept (Trial): the image becomes accepted in the active bank; when all are, the bank is 252 and the session Regular.
-/// Accepting an accepted image changes nothing in the record; the next session is still Regular if all are accepted, else
-/// Trial."
+/// Accept (S12 to S14).
 pub fn accept(session: Session, area: &[u8], slice_len: u64, wanted: &[u8; 16]) -> Answer {
     let mut record = match old_record(session, area, slice_len) {
         Err(number) => return refused(session, area, number),
@@ -266,10 +261,10 @@ pub fn accept(session: Session, area: &[u8], slice_len: u64, wanted: &[u8; 16]) 
         record = with_crc(record);
     }
     let next = if all_accepted(&record, bank) { Session::Regular } else { Session::Trial };
-    accepted_change(next, area, record)
+    passed_change(next, area, record)
 }
 
-/// "Select previous (Trial, Fallback): the previous bank must be 252. Active and previous are exchanged. Restart."
+/// Select previous (S15, S16).
 pub fn select_previous(session: Session, area: &[u8], slice_len: u64) -> Answer {
     let mut record = match old_record(session, area, slice_len) {
         Err(number) => return refused(session, area, number),
@@ -285,5 +280,5 @@ pub fn select_previous(session: Session, area: &[u8], slice_len: u64) -> Answer 
     let (was_active, was_previous) = (active(&record), previous(&record));
     put(&mut record, 8, 4, was_previous);
     put(&mut record, 12, 4, was_active);
-    accepted_change(Session::Restart, area, with_crc(record))
+    passed_change(Session::Restart, area, with_crc(record))
 }

@@ -1,10 +1,10 @@
-//! Document 01, "Power cuts", and the rules on lists of stores in "Session and calls". No list is made here; these
+//! Power cuts (rules P), and the rules on lists of stores (R22 to R27). No list is made here; these
 //! functions do and judge a list that was made elsewhere.
 
 use crate::bytes::put;
 use crate::record::*;
 
-/// Does the stores, in list order: "each puts its word into the four bytes at its offset". The offsets must be multiples
+/// Does the stores, in list order (R22). The offsets must be multiples
 /// of 4 in the area.
 pub fn apply(area: &[u8], pairs: &[(u32, u32)]) -> Vec<u8> {
     let mut after = area.to_vec();
@@ -15,7 +15,7 @@ pub fn apply(area: &[u8], pairs: &[(u32, u32)]) -> Vec<u8> {
     after
 }
 
-/// "Offsets are multiples of 4 inside one of the two record ranges, old or new": whether each store keeps that, for an old
+/// R25: whether each offset is a multiple of 4 in one of the two record ranges, for an old
 /// and a new record of these sizes, and whether the list has at most 2,100 pairs.
 pub fn offsets_good(pairs: &[(u32, u32)], old_size: usize, new_size: usize) -> bool {
     let reach = old_size.max(new_size);
@@ -26,8 +26,7 @@ pub fn offsets_good(pairs: &[(u32, u32)], old_size: usize, new_size: usize) -> b
         })
 }
 
-/// Demand 3 for one accepted change, cut after any number of its stores: "the old after no store, the new after all, and
-/// once the new is read, every later cut of that change reads it too". Answers the first cut that fails, if one does.
+/// One accepted change, cut after any number of its stores (P4 to P6). Answers the first cut that fails, if one does.
 pub fn bad_cut(area: &[u8], pairs: &[(u32, u32)], old: &[u8], new: &[u8]) -> Option<usize> {
     let mut new_seen = false;
     for n in 0..=pairs.len() {
@@ -47,7 +46,7 @@ pub fn bad_cut(area: &[u8], pairs: &[(u32, u32)], old: &[u8], new: &[u8]) -> Opt
     None
 }
 
-/// Demand 3 for one repair, cut after any number of its stores: start-up reads the same record at every cut, and both
+/// One repair, cut after any number of its stores (P10, P11): start-up reads the same record at every cut, and both
 /// copies are sound and equal after all. Answers the first cut that fails, if one does.
 pub fn bad_repair_cut(area: &[u8], pairs: &[(u32, u32)]) -> Option<usize> {
     let before = record_read(area).map(|(_, record)| record);

@@ -1,4 +1,4 @@
-//! Document 01, "Session and calls", "When the bench says no", samples 13 and 14.
+//! Sessions and calls (rules S), refusals (rules N), samples 13 and 14.
 
 use second::make::*;
 use second::record::*;

@@ -1,4 +1,4 @@
-//! Document 01, "The capsule", and sample 12.
+//! The capsule (rules C), and sample 12.
 
 use second::bytes::put;
 use second::capsule::*;

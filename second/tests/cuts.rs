@@ -1,4 +1,4 @@
-//! Document 01, "Power cuts": the judges of lists, tried with one plain list and with bad ones.
+//! Power cuts (rules P): the judges of lists, tried with one plain list and with bad ones.
 
 use second::bytes::number;
 use second::make::*;
@@ -19,7 +19,7 @@ fn write_copy(start: usize, new: &[u8]) -> Vec<(u32, u32)> {
 }
 
 #[test]
-fn a_plain_list_keeps_demand_3() {
+fn a_plain_list_survives_every_cut() {
     let old = make_record(2, 3, 0, 1);
     let area = make_area(&old, &old, 5);
     let a = begin(Session::Regular, &area, 4_200);
@@ -68,7 +68,7 @@ fn bad_lists_are_seen() {
 
 /// Changes of every kind that the recipes make on small records, each cut after any number of the plain list's stores.
 #[test]
-fn plain_lists_of_random_changes_keep_demand_3() {
+fn plain_lists_of_random_changes_survive_every_cut() {
     let mut tried = 0;
     for call in 2..8 {
         for k in 0..600 {
@@ -83,7 +83,7 @@ fn plain_lists_of_random_changes_keep_demand_3() {
             pairs.extend(write_copy(COPY, &new));
             assert_eq!(apply(&input.area, &pairs), answer.area);
             assert!(offsets_good(&pairs, old.len(), new.len()));
-            // A rewrite of an unchanged record keeps the demand as well: the old and the new are one.
+            // A rewrite of an unchanged record survives as well: the old and the new are one.
             assert_eq!(bad_cut(&input.area, &pairs, &old, &new), None);
             tried += 1;
             if tried % 40 == 0 {

@@ -1,4 +1,4 @@
-//! Document 01, "The window and the scattered list", and samples 1 to 8.
+//! Gathering (rules G), and samples 1 to 8.
 
 use second::gather::gather;
 use second::make::{filler, put_descriptor};
@@ -82,7 +82,7 @@ fn sample_7_length_of_all_ones() {
     check(two_blocks((u64::MAX, 0x1040), (3, 0x1050)), B, B, Err(4), &[]);
 }
 
-/// `gather_blocks` one-byte blocks behind the list, an end where asked for, and room for all of them behind the blocks.
+/// `blocks` one-byte blocks behind the list, an end where asked for, and room for all of them behind the blocks.
 fn many(blocks: usize, end: bool, room: usize) -> (Vec<u8>, Vec<(u64, u64)>) {
     let list = 16 * (blocks + 1);
     let mut w = window(list + 2 * blocks + room);
@@ -328,7 +328,7 @@ fn jumps_and_the_end_are_kept_free_of_the_place() {
 
 #[test]
 fn the_scan_agrees_with_trying_every_start() {
-    // Document 01: "the lowest start whose range ... shares no byte": tried start by start.
+    // The lowest free start (G12), tried start by start.
     let mut draw = second::inputs::Draw::new(5);
     for _ in 0..300 {
         let used: Vec<bool> = (0..40).map(|_| draw.below(5) == 0).collect();

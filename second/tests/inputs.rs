@@ -64,8 +64,9 @@ fn plans_are_sound_and_one_rule_breaks_at_a_time() {
     }
 }
 
-/// What document 01 says of every answer: a refusal leaves session and area; an accepted call leaves two sound and equal
-/// copies that hold the new record, and every byte behind them as it was; its session fits the record.
+/// What the rules say of every answer (N105, N106, R26, S19): a refusal leaves session and area; an accepted call
+/// leaves two sound and equal copies that hold the new record, and every byte behind them as it was; its session fits
+/// the record.
 #[test]
 fn every_call_keeps_the_general_rules() {
     for call in 0..8 {
@@ -103,8 +104,8 @@ fn every_call_keeps_the_general_rules() {
     }
 }
 
-/// The three numbers mean the session. Start-up and repair have Restart's. Only cases 5, 7 and 20 have others than a session
-/// has: kinds above 4, bank and set beside another kind than Staging.
+/// The three numbers mean the session. Start-up and repair have Restart's. Only cases 5, 7 and 20 have others than a
+/// session has: kinds above 4, bank and set beside another kind than Staging.
 #[test]
 fn raw_sessions() {
     for call in 0..8 {
@@ -136,8 +137,8 @@ fn raw_sessions() {
     }
 }
 
-/// Records laid out with other sizes: they fit a copy, fields and CRC go by the size told, and but for the two rules on entry
-/// sizes the header keeps its own.
+/// Records laid out with other sizes: they fit a copy, fields and CRC go by the size told, and but for the two rules on
+/// entry sizes the header keeps its own.
 #[test]
 fn other_entry_sizes() {
     for k in 0..400 {
@@ -214,10 +215,10 @@ fn limits_of_calls_are_met() {
 }
 
 #[test]
-fn sheet_slices() {
+fn report_slices() {
     let mut lengths = std::collections::BTreeMap::new();
     for k in 0..2_000 {
-        let input = sheet_input(1, k);
+        let input = report_input(1, k);
         assert_eq!(input.area, call_input(0, 1, k).area);
         *lengths.entry(input.slice_len).or_insert(0) += 1;
     }
@@ -245,7 +246,7 @@ fn capsule_parts_lie_in_their_items() {
     }
 }
 
-/// The place against document 01's words, start by start, in windows that are small enough for it.
+/// The place against its rule (G12), start by start, in windows that are small enough for it.
 #[test]
 fn the_place_is_the_lowest() {
     for k in 0..3_000 {
@@ -301,7 +302,7 @@ fn digests_as_they_stand() {
         ("cancel", 0x7755b884, 0xbf2f2521),
         ("accept", 0x86f05853, 0xff60abe1),
         ("select_previous", 0x0cce8511, 0x9d6a203b),
-        ("sheet", 0x26331f3a, 0xac6f1373),
+        ("report", 0x26331f3a, 0xac6f1373),
         ("soundness", 0x31a34d57, 0x2afe5ca3),
         ("rules", 0x31a34d57, 0x0eb5fde7),
     ];

@@ -1,4 +1,4 @@
-//! Document 01, "The record", and samples 9 to 11.
+//! The record (rules R), and samples 9 to 11.
 
 use second::bytes::put;
 use second::make::*;

@@ -1,61 +1,42 @@
--- What the exported functions answer, in numbers (include/meanderpeg.h): the number, and what stands behind the
--- references at exit. a is the bytes of the area, s the numbers of the store slice. Assumes nothing.
+-- What the exported functions answer, in numbers (X3): the struct of include/meanderpeg.h, and the store slice at exit.
+-- a is the bytes of the area, s the numbers of the store slice. Assumes nothing.
 use Prim.Native.Nat.{ℕ}
-use mathlib.Core.Bool.{cond}
-use mathlib.Core.List.{List, [], _∷_}
-use lib.Dec.{eqb}
-use Rattle.refusal_order.specs.Decide.{Decision, passed, refusal, Reply, gives, refuses, reply}
-use Rattle.update_changes.specs.Changed.{Call, end}
-use Rattle.update_session.specs.declared.Session.{Session}
+use mathlib.Core.List.{List, [], _∷_, _++_}
+use lib.ListN.{take}
+use Rattle.refusal_order.specs.Decide.{Reply, gives, refuses, reply}
+use Rattle.update_changes.specs.Changed.{Call}
 use Rattle.update_session.specs.Outcome.{Outcome}
-use Rattle.update_session.specs.Sessions.{kindOf, bankOf, setOf}
 use Rattle.update_session.specs.Calls.{Result, answered}
-use Rattle.c_session.specs.Numbers.{sessionNamed}
+use Rattle.c_session.specs.declared.SessionNumbers.{SessionNumbers}
+use Rattle.c_session.specs.Numbers.{numbersOf, sessionNamed}
+use Rattle.c_answer.specs.declared.AnswerNumbers.{AnswerNumbers}
 
--- 0 and what is given, in numbers, where accepted; else the refusal's number and what stood there
-abbrev pub exportedReply : {A B : Type 0} → (inNumbers : A → B) → Reply A → (old : B) → ℕ × B
-exportedReply inNumbers (gives x) old = (0, inNumbers x)
-exportedReply inNumbers (refuses number values) old = (number, old)
+-- what is told beside the number (N107, X3), in order in two slots, 0 where there is less: the same slots for every
+-- function, so that a refusal which tells two numbers finds its place
+abbrev pub slots : (values : List ℕ) → List ℕ
+slots values = take 2 (values ++ (0 ∷ 0 ∷ []))
 
--- start-up: the kind of the session
-abbrev pub exportedKind : Reply Session → (kind : ℕ) → ℕ × ℕ
-exportedKind started kind = exportedReply kindOf started kind
+-- passed: nothing told, the next session and the count of pairs (S17, X3)
+abbrev pub passedNumbers : (next : SessionNumbers) (pairs : ℕ) → AnswerNumbers
+passedNumbers next pairs = record { refusal = 0; told = slots []; session = next; pairs = pairs }
 
--- repair: the count of pairs, and the store slice
-abbrev pub exportedRepair : Reply ℕ × List ℕ → (pairs : ℕ) → (ℕ × ℕ) × List ℕ
-exportedRepair repaired pairs = (exportedReply (λ n. n) (repaired .0) pairs, repaired .1)
+-- refused: the number, what it tells, the session as it was given, also where its numbers name none, and no list (X2
+-- to X4)
+abbrev pub refusedNumbers : (given : SessionNumbers) (number : ℕ) (values : List ℕ) → AnswerNumbers
+refusedNumbers given number values = record { refusal = number; told = slots values; session = given; pairs = 0 }
 
--- a call: kind, bank and set of the session, and the count of pairs
-abbrev pub Numbers : Type 0
-Numbers = ℕ × ℕ × ℕ × ℕ
+-- which of the two
+abbrev pub exportedReply : {A : Type 0} → (ifPassed : A → AnswerNumbers) → (given : SessionNumbers) → Reply A → AnswerNumbers
+exportedReply ifPassed given (gives x) = ifPassed x
+exportedReply ifPassed given (refuses number values) = refusedNumbers given number values
 
-abbrev pub answerNumbers : Session → (pairs : ℕ) → Numbers
-answerNumbers q pairs = (kindOf q, bankOf q, setOf q, pairs)
+-- a call's outcome
+abbrev pub exportedOutcome : (given : SessionNumbers) → Outcome → AnswerNumbers
+exportedOutcome given o = exportedReply (passedNumbers (numbersOf (o .0))) given (reply (o .1) (o .2))
 
-abbrev pub exportedAnswer : Outcome → Numbers → ℕ × Numbers
-exportedAnswer o old = exportedReply (answerNumbers (o .0)) (reply (o .1) (o .2)) old
+abbrev pub exportedResult : (given : SessionNumbers) → Result → AnswerNumbers × List ℕ
+exportedResult given result = (exportedOutcome given (result .0), result .1)
 
--- and the store slice
-abbrev pub exportedCall : Result → Numbers → (ℕ × Numbers) × List ℕ
-exportedCall result old = (exportedAnswer (result .0) old, result .1)
-
--- the call k of the session that the numbers name
-abbrev pub exported : Call → Numbers → (a s : List ℕ) → (ℕ × Numbers) × List ℕ
-exported k old a s = exportedCall (answered k (sessionNamed (old .0) (old .1) (old .2)) a s) old
-
--- "27 also the count": the value that 27 tells beside its number. Any other number, and an accepted answer, leaves what
--- stood there
-abbrev pub countOr : (old : ℕ) → (values : List ℕ) → ℕ
-countOr old [] = old
-countOr old (count ∷ more) = count
-
-abbrev pub missingOr : (old number : ℕ) → (values : List ℕ) → ℕ
-missingOr old number values = cond (eqb number 27) (countOr old values) old
-
-abbrev pub missingAfter : (old : ℕ) → Decision → ℕ
-missingAfter old passed = old
-missingAfter old (refusal number values) = missingOr old number values
-
--- End: the count of missing images too
-abbrev pub exportedMissing : Session → (a s : List ℕ) → (missing : ℕ) → ℕ
-exportedMissing q a s missing = missingAfter missing (answered end q a s .0 .1)
+-- the call k of the session that the numbers name (X2)
+abbrev pub exported : Call → (given : SessionNumbers) → (a s : List ℕ) → AnswerNumbers × List ℕ
+exported k given a s = exportedResult given (answered k (sessionNamed given) a s)

@@ -1,5 +1,6 @@
 // The way in from C and Rust (include/meanderpeg.h): what an area holds. A slice passes as a pointer and a length, a
-// number behind a reference as a pointer. A refusal leaves what was lent as it was.
+// number behind a reference as a pointer. A refused soundness sets nothing (X5); the report of a refused area is its
+// line (T6).
 use record_layout::AREA;
 use record_layout::COPY;
 ghost use mathlib.Core.Path.{_≡_};
@@ -8,7 +9,7 @@ ghost use Rattle.record_layout.specs.Layout.{areaSize};
 ghost use Rattle.report.specs.Report.{reportIn};
 ghost use Rattle.c_area.specs.Soundness.{soundCopies, exportedSoundness};
 
-// Which copies are sound, and whether they are equal, as bits.
+// Which copies are sound (R5), and whether they are equal (R21), as bits (X7).
 fn sound_copies(area: &[u8]) -> u32
     requires { ⌜ length (now area) ≡ areaSize ⌝ }
     ensures { λ r. ⌜ r ≡ soundCopies (now (area .entry)) ⌝ }
@@ -27,7 +28,7 @@ fn sound_copies(area: &[u8]) -> u32
     }
 }
 
-// Sets the bits of `sound_copies`. Refusal 20.
+// Sets the bits of `sound_copies`; N20 (X7).
 #[no_mangle]
 pub extern "C" fn meanderpeg_soundness(area: &[u8], found: &mut u32) -> u32
     ensures { λ r. ⌜ (r, now (found .exit)) ≡ exportedSoundness (now (area .entry)) (now (found .entry)) ⌝ }
@@ -39,7 +40,7 @@ pub extern "C" fn meanderpeg_soundness(area: &[u8], found: &mut u32) -> u32
     0
 }
 
-// The report's text at the front of `report_text`, as `report::report` writes it, and how many bytes it has.
+// The report at the front of `text`, as `report::report` writes it, and how many bytes it has (T7).
 #[no_mangle]
 pub extern "C" fn meanderpeg_report(area: &[u8], text: &mut [u8]) -> usize
     ensures { λ n. ⌜ (n, now (text .exit)) ≡ reportIn (now (area .entry)) (now (text .entry)) ⌝ }

@@ -1,48 +1,39 @@
 // The way in from C and Rust (include/meanderpeg.h): the calls Begin and Cancel. A slice passes as a pointer and a
-// length, a number behind a reference as a pointer. Each call takes the session as three numbers, lists the stores of
-// the change, and sets the next session's three numbers and the count of pairs. An answer of 0 is accepted, else it
-// is the refusal's number, and then what was lent is as it was.
+// length; the session and the answer are structs by value (X1 to X4). Each call lists its stores in `out`, which a
+// refusal leaves as it was (N105).
 // Parted from its neighbours for the prover: each must-fail edit proves its whole crate again.
-use c_answer::give;
+use c_answer::AnswerNumbers;
+use c_answer::answer_in_numbers;
+use c_session::SessionNumbers;
 use c_session::session_named;
 ghost use mathlib.Core.Path.{_≡_};
 ghost use Rattle.update_changes.specs.Changed.{begin, cancel};
 ghost use Rattle.c_answer.specs.Answers.{exported};
 
-// Opens a Staging session.
+// Opens a Staging session (S5, S6).
 #[no_mangle]
 pub extern "C" fn meanderpeg_begin(
-    kind: &mut u32,
-    bank: &mut u32,
-    set: &mut u32,
+    session: SessionNumbers,
     area: &[u8],
     out: &mut [u32],
-    pairs: &mut usize,
-) -> u32
-    ensures { λ r. ⌜ ((r, (now (kind .exit), now (bank .exit), now (set .exit), now (pairs .exit))), now (out .exit))
-        ≡ exported begin (now (kind .entry), now (bank .entry), now (set .entry), now (pairs .entry))
-        (now (area .entry)) (now (out .entry)) ⌝ }
+) -> AnswerNumbers
+    ensures { λ r. ⌜ (r, now (out .exit)) ≡ exported begin session (now (area .entry)) (now (out .entry)) ⌝ }
 {
-    let session = session_named(*kind, *bank, *set);
-    let answer = session.begin(area, out);
-    give(answer, kind, bank, set, pairs)
+    let named = session_named(session);
+    let answer = named.begin(area, out);
+    answer_in_numbers(session, answer)
 }
 
-// Lists no store.
+// Lists no store (S11).
 #[no_mangle]
 pub extern "C" fn meanderpeg_cancel(
-    kind: &mut u32,
-    bank: &mut u32,
-    set: &mut u32,
+    session: SessionNumbers,
     area: &[u8],
     out: &mut [u32],
-    pairs: &mut usize,
-) -> u32
-    ensures { λ r. ⌜ ((r, (now (kind .exit), now (bank .exit), now (set .exit), now (pairs .exit))), now (out .exit))
-        ≡ exported cancel (now (kind .entry), now (bank .entry), now (set .entry), now (pairs .entry))
-        (now (area .entry)) (now (out .entry)) ⌝ }
+) -> AnswerNumbers
+    ensures { λ r. ⌜ (r, now (out .exit)) ≡ exported cancel session (now (area .entry)) (now (out .entry)) ⌝ }
 {
-    let session = session_named(*kind, *bank, *set);
-    let answer = session.cancel(area, out);
-    give(answer, kind, bank, set, pairs)
+    let named = session_named(session);
+    let answer = named.cancel(area, out);
+    answer_in_numbers(session, answer)
 }

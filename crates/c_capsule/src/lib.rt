@@ -1,30 +1,27 @@
-// The way in from C and Rust (include/meanderpeg.h): a capsule's refusal and its items. A slice passes as a pointer and
-// a length.
+// The way in from C and Rust (include/meanderpeg.h): the check of a whole capsule. A slice passes as a pointer and a
+// length, an array behind a reference as a pointer.
+use refusal_order::Verdict;
 ghost use mathlib.Core.Path.{_≡_};
-ghost use Rattle.capsule_check.specs.Verdict.{refusalNumber};
-ghost use Rattle.capsule_check.specs.Item.{located};
-ghost use Rattle.capsule_items.specs.Items.{itemPart, lengthIn};
+ghost use mathlib.Core.List.{[], _∷_};
+ghost use Rattle.capsule_check.specs.Verdict.{verdict};
+ghost use Rattle.capsule_counts.specs.Count.{driverCount, payloadCount};
+ghost use Rattle.c_reply.specs.Replied.{repliedBy};
 
-// The number of the refusal for item k of a capsule, or 0 for none.
+// Checks a whole capsule (C1 to C16). Returns 0 and sets how many drivers and payloads it has (C25); or returns the
+// refusal, N10 to N15, and sets nothing (X5). The array of two has the layout of C's struct meanderpeg_counts.
+// The clause asks the verdict twice: in `repliedBy`, and in what it gives, whose branch for a refusal is dead there.
 #[no_mangle]
-pub extern "C" fn meanderpeg_capsule_refusal(s: &[u8], k: usize) -> u32
-    ensures { λ r. ⌜ r ≡ refusalNumber (now (s .entry)) k ⌝ }
+pub extern "C" fn meanderpeg_capsule_check(s: &[u8], counts: &mut [usize; 2]) -> u32
+    ensures { λ r. ⌜ (r, now (counts .exit)) ≡ repliedBy (verdict (now (s .entry)))
+        (driverCount (now (s .entry)) ∷ payloadCount (now (s .entry)) ∷ []) (now (counts .entry)) ⌝ }
 {
-    capsule_items::refusal(s, k).number()
-}
-
-// The length of item k.
-#[no_mangle]
-pub extern "C" fn meanderpeg_capsule_item_length(s: &[u8], k: usize) -> usize
-    ensures { λ r. ⌜ r ≡ lengthIn (now (s .entry)) (itemPart (located (now (s .entry)) k)) ⌝ }
-{
-    capsule_items::item(s, k).len()
-}
-
-// Where item k starts in the capsule; 0 with a refusal.
-#[no_mangle]
-pub extern "C" fn meanderpeg_capsule_item_start(s: &[u8], k: usize) -> usize
-    ensures { λ r. ⌜ r ≡ itemPart (located (now (s .entry)) k) .start ⌝ }
-{
-    capsule_items::item_span(s, k).start
+    let found = capsule_counts::counts_of(s);
+    let checked = found.verdict;
+    match checked {
+        Verdict::Passed => {
+            *counts = [found.drivers, found.payloads];
+            0
+        }
+        Verdict::Refused(why) => why.number(),
+    }
 }

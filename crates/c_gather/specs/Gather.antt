@@ -1,27 +1,16 @@
--- Gathering's outcome as the exported function gives it: a number, the window, and two numbers behind references.
+-- Gathering's outcome as the exported function gives it: a number, two numbers behind a pointer, and the window.
 -- Assumes nothing.
 use Prim.Native.Nat.{ℕ}
-use mathlib.Core.List.{List}
-use mathlib.Core.Path.{_≡_}
+use mathlib.Core.List.{List, [], _∷_}
+use Rattle.refusal_order.specs.Decide.{Reply, gives, refuses}
 use Rattle.gather.specs.Gather.{Answer, refusal, place}
+use Rattle.c_reply.specs.Replied.{replied}
 
--- the number answered: 0 for a place, else the refusal's
-abbrev pub number : Answer → ℕ
-number (refusal n) = n
-number (place a t) = 0
+-- the place in two numbers, its address and the total; or the refusal
+abbrev pub placeReply : Answer → Reply (List ℕ)
+placeReply (refusal number) = refuses number []
+placeReply (place address total) = gives (address ∷ total ∷ [])
 
--- the address and the total where there is a place, else what stood there
-abbrev pub addressOr : ℕ → Answer → ℕ
-addressOr old (refusal n) = old
-addressOr old (place a t) = a
-
-abbrev pub totalOr : ℕ → Answer → ℕ
-totalOr old (refusal n) = old
-totalOr old (place a t) = t
-
--- the number answered, and everything lent as it is at exit
-pub record Exported (outcome : Answer × List ℕ) (address₀ total₀ r : ℕ) (w : List ℕ) (address total : ℕ) : Type 0 where
-  pub answered : r ≡ number (outcome .0)
-  pub window : w ≡ outcome .1
-  pub address-after : address ≡ addressOr address₀ (outcome .0)
-  pub total-after : total ≡ totalOr total₀ (outcome .0)
+-- the number and what stands behind the pointer (X5), and the window afterwards
+abbrev pub exportedPlace : Answer × List ℕ → (old : List ℕ) → (ℕ × List ℕ) × List ℕ
+exportedPlace outcome old = (replied (placeReply (outcome .0)) old, outcome .1)

@@ -1,2 +1,2 @@
--- A law of sessions in numbers, for whoever calls from C. Assumes nothing.
+-- Laws of sessions in numbers, for whoever calls from C. Assumes nothing.
 pub mod Sessions

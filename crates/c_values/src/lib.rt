@@ -1,49 +1,66 @@
-// The way in from C and Rust (include/meanderpeg.h): a capsule's counts and the values shown of an item. A slice passes
-// as a pointer and a length, an array of 16 bytes behind a reference as a pointer.
+// The way in from C and Rust (include/meanderpeg.h): the values shown of a capsule's items. A slice passes as a pointer
+// and a length, a number or an array behind a reference as a pointer.
+// Each function returns 0 and sets its value; or returns the refusal, N10 to N16, and sets nothing (X5).
+// Each clause asks the verdict twice: in `repliedBy`, and in what it gives, whose branch for a refusal is dead there.
+use refusal_order::Verdict;
 ghost use mathlib.Core.Path.{_≡_};
+ghost use Rattle.capsule_check.specs.Verdict.{itemVerdict};
 ghost use Rattle.capsule_check.specs.Item.{located};
-ghost use Rattle.capsule_counts.specs.Count.{driverCount, payloadCount};
-ghost use Rattle.capsule_values.specs.Shown.{imageIndexOf, hardwareInstanceOf};
-ghost use Rattle.c_values.specs.Values.{shownGuid};
+ghost use Rattle.capsule_values.specs.Shown.{typeGuidOf, imageIndexOf, hardwareInstanceOf};
+ghost use Rattle.c_reply.specs.Replied.{repliedBy};
 
-// How many drivers and payloads there are; 0 with a refusal of the capsule.
-#[no_mangle]
-pub extern "C" fn meanderpeg_capsule_drivers(s: &[u8]) -> usize
-    ensures { λ r. ⌜ r ≡ driverCount (now (s .entry)) ⌝ }
-{
-    capsule_counts::driver_count(s)
-}
-
-#[no_mangle]
-pub extern "C" fn meanderpeg_capsule_payloads(s: &[u8]) -> usize
-    ensures { λ r. ⌜ r ≡ payloadCount (now (s .entry)) ⌝ }
-{
-    capsule_counts::payload_count(s)
-}
-
-// The type GUID of item k, zeros for a driver. On a refusal the lent bytes stay, since they are the caller's.
+// The type GUID of item k, zeros of a driver (C21).
 #[no_mangle]
 pub extern "C" fn meanderpeg_capsule_type_guid(s: &[u8], k: usize, guid: &mut [u8; 16]) -> u32
-    ensures { λ r. ⌜ (r, now (guid .exit)) ≡ shownGuid (now (s .entry)) k (now (guid .entry)) ⌝ }
+    ensures { λ r. ⌜ (r, now (guid .exit)) ≡ repliedBy (itemVerdict (now (s .entry)) k)
+        (typeGuidOf (now (s .entry)) (located (now (s .entry)) k)) (now (guid .entry)) ⌝ }
 {
-    let number = capsule_items::refusal(s, k).number();
-    if number == 0 {
-        *guid = capsule_values::type_guid(s, k);
+    let values = capsule_values::values_of(s, k);
+    let verdict = values.verdict;
+    match verdict {
+        Verdict::Passed => {
+            let shown = values.guid;
+            *guid = shown;
+            0
+        }
+        Verdict::Refused(why) => why.number(),
     }
-    number
 }
 
-// Image index and hardware instance of item k: "version 1 shows instance 0, a driver or a refusal all zeros".
+// Its image index, 0 of a driver.
 #[no_mangle]
-pub extern "C" fn meanderpeg_capsule_image_index(s: &[u8], k: usize) -> u8
-    ensures { λ r. ⌜ r ≡ imageIndexOf (now (s .entry)) (located (now (s .entry)) k) ⌝ }
+pub extern "C" fn meanderpeg_capsule_image_index(s: &[u8], k: usize, index: &mut u8) -> u32
+    ensures { λ r. ⌜ (r, now (index .exit)) ≡ repliedBy (itemVerdict (now (s .entry)) k)
+        (imageIndexOf (now (s .entry)) (located (now (s .entry)) k)) (now (index .entry)) ⌝ }
 {
-    capsule_values::image_index(s, k)
+    let values = capsule_values::values_of(s, k);
+    let verdict = values.verdict;
+    match verdict {
+        Verdict::Passed => {
+            *index = values.index;
+            0
+        }
+        Verdict::Refused(why) => why.number(),
+    }
 }
 
+// Its hardware instance, 0 of a driver and in version 1.
 #[no_mangle]
-pub extern "C" fn meanderpeg_capsule_hardware_instance(s: &[u8], k: usize) -> u64
-    ensures { λ r. ⌜ r ≡ hardwareInstanceOf (now (s .entry)) (located (now (s .entry)) k) ⌝ }
+pub extern "C" fn meanderpeg_capsule_hardware_instance(
+    s: &[u8],
+    k: usize,
+    instance: &mut u64,
+) -> u32
+    ensures { λ r. ⌜ (r, now (instance .exit)) ≡ repliedBy (itemVerdict (now (s .entry)) k)
+        (hardwareInstanceOf (now (s .entry)) (located (now (s .entry)) k)) (now (instance .entry)) ⌝ }
 {
-    capsule_values::hardware_instance(s, k)
+    let values = capsule_values::values_of(s, k);
+    let verdict = values.verdict;
+    match verdict {
+        Verdict::Passed => {
+            *instance = values.instance;
+            0
+        }
+        Verdict::Refused(why) => why.number(),
+    }
 }

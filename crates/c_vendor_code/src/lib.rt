@@ -1,23 +1,29 @@
 // The way in from C and Rust (include/meanderpeg.h): the vendor codes of a capsule's items. A slice passes as a pointer
-// and a length.
+// and a length, an array behind a reference as a pointer.
 // Parted from its neighbours for the prover: each must-fail edit proves its whole crate again.
+use refusal_order::Verdict;
 ghost use mathlib.Core.Path.{_≡_};
+ghost use Rattle.capsule_check.specs.Verdict.{itemVerdict};
 ghost use Rattle.capsule_check.specs.Item.{located};
-ghost use Rattle.capsule_items.specs.Items.{lengthIn};
+ghost use Rattle.capsule_items.specs.Items.{startAndLength};
 ghost use Rattle.capsule_parts.specs.Parts.{vendorCodePart};
+ghost use Rattle.c_reply.specs.Replied.{repliedBy};
 
-// The length of the vendor code of item k.
+// Returns 0 and sets where the vendor code of item k lies (C20): start and length (X6); or returns the refusal, N10 to
+// N16, and sets nothing (X5). The array of two has the layout of C's struct meanderpeg_part.
+// The clause asks the verdict twice: in `repliedBy`, and in what it gives, whose branch for a refusal is dead there.
 #[no_mangle]
-pub extern "C" fn meanderpeg_capsule_vendor_code_length(s: &[u8], k: usize) -> usize
-    ensures { λ r. ⌜ r ≡ lengthIn (now (s .entry)) (vendorCodePart (now (s .entry)) (located (now (s .entry)) k)) ⌝ }
+pub extern "C" fn meanderpeg_capsule_vendor_code(s: &[u8], k: usize, part: &mut [usize; 2]) -> u32
+    ensures { λ r. ⌜ (r, now (part .exit)) ≡ repliedBy (itemVerdict (now (s .entry)) k)
+        (startAndLength (now (s .entry)) (vendorCodePart (now (s .entry)) (located (now (s .entry)) k))) (now (part .entry)) ⌝ }
 {
-    capsule_parts::vendor_code(s, k).len()
-}
-
-// Where the vendor code of item k starts in the capsule; 0 with a refusal.
-#[no_mangle]
-pub extern "C" fn meanderpeg_capsule_vendor_code_start(s: &[u8], k: usize) -> usize
-    ensures { λ r. ⌜ r ≡ vendorCodePart (now (s .entry)) (located (now (s .entry)) k) .start ⌝ }
-{
-    capsule_parts::places_of(s, k).code
+    let places = capsule_parts::places_of(s, k);
+    let verdict = places.verdict;
+    match verdict {
+        Verdict::Passed => {
+            *part = [places.code, places.end - places.code];
+            0
+        }
+        Verdict::Refused(why) => why.number(),
+    }
 }

@@ -1,7 +1,6 @@
--- The capsule's body (document 01, "The capsule", second paragraph), b being its bytes: the counts, the list of offsets
--- and the items. Counts, offsets and sums are whole numbers. Each number reads bytes past the end of b as 0; a body
--- below 8 bytes is at fault whatever it reads, and so is one in which the list does not fit: no offset can lie at or
--- after the list's end and below the body's length. Assumes nothing.
+-- The capsule's body (C6 to C12), b being its bytes: the counts, the list of offsets and the items. Counts, offsets and
+-- sums are whole numbers. Each number reads bytes past the end of b as 0; a body below 8 bytes is at fault whatever it
+-- reads, and so is one in which the list does not fit, by C11. Assumes nothing.
 use Prim.Native.Nat.{ℕ, zero, suc, _+_, _-_, _*_}
 use mathlib.Core.Bool.{Bool, true, cond, _&&_}
 use mathlib.Core.List.{List}
@@ -18,8 +17,7 @@ unfoldable pub all : (ℕ → Bool) → ℕ → Bool
 all p zero = true
 all p (suc n) = all p n && p n
 
--- "It holds Version (32 bits, 1), driver count and payload count (16 bits each), then one 64-bit offset per item, from
--- the body's start, drivers first."
+-- C6, C8: version, the two counts, the offsets
 unfoldable pub bodyVersion : List ℕ → ℕ
 bodyVersion b = le 4 b 0
 
@@ -39,25 +37,25 @@ offset b k = le 8 b (8 + 8 * k)
 abbrev pub listEnd : List ℕ → ℕ
 listEnd b = 8 + 8 * items b
 
--- "Offsets rise strictly": the one of item k against the one before it
+-- C10: the offset of item k against the one before it
 unfoldable pub rises : List ℕ → ℕ → Bool
 rises b zero = true
 rises b (suc k) = ltb (offset b k) (offset b (suc k))
 
--- "Offsets rise strictly, start at or after the list's end and lie below the body's length."
+-- an offset lies between the list's end and the body's, and rises (C10, C11)
 unfoldable pub offsetRight : List ℕ → ℕ → Bool
 offsetRight b k = leb (listEnd b) (offset b k) && ltb (offset b k) (length b) && rises b k
 
--- "Items number 0 to 64."
+-- how many items there are at most (C9)
 abbrev pub itemLimit : ℕ
 itemLimit = 64
 
--- Refusal 14 is for a body where this fails: "body below 8 bytes, its version, count or offsets".
+-- N14 is for a body where this fails: its length, version, counts or offsets
 unfoldable pub bodyRight : List ℕ → Bool
 bodyRight b =
     leb 8 (length b) && eqb (bodyVersion b) 1 && leb (items b) itemLimit && all (offsetRight b) (items b)
 
--- "An item ends where the next begins, or with the body."
+-- an item ends where the next begins, the last with the body (C12)
 unfoldable pub itemEnd : List ℕ → ℕ → ℕ
 itemEnd b k = cond (ltb (k + 1) (items b)) (offset b (k + 1)) (length b)
 

@@ -1,2 +1,2 @@
--- The layout of a capsule's body, and the rules on it (document 01, "The capsule"; UEFI 2.10, 23.3). Assumes nothing.
+-- The layout of a capsule's body, and the rules on it (C6 to C12). Assumes nothing.
 pub mod Body

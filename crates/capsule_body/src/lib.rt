@@ -1,5 +1,5 @@
-// The rules on a capsule's body with the list of offsets (document 01, "The capsule"; UEFI 2.10, 23.3), and where its
-// items lie. Each rule is a function that answers what its definition says.
+// The rules on a capsule's body with the list of offsets, and where its items lie (C6 to C12). Each rule is a function
+// that answers what its definition says.
 ghost use mathlib.Core.Path.{_≡_};
 ghost use mathlib.Core.Bool.{true};
 ghost use Prim.Native.Nat.{_+_, _*_, _<_, _≤_};
@@ -7,7 +7,7 @@ ghost use lib.ListN.{length};
 ghost use Rattle.capsule_body.specs.Body.{all, items, offset, offsetRight, bodyRight, itemEnd};
 ghost use Rattle.capsule_body.specs.Body.{item as itemBytes};
 
-// Refusal 14, for one offset of n, in a body that holds the list.
+// N14, for one offset of n, in a body that holds the list.
 pub fn offset_right(b: &[u8], n: usize, k: usize) -> bool
     requires { ⌜ (n ≡ items (now b)) × (n ≤ 64) × (k < n) × (8 + 8 * n ≤ length (now b)) ⌝ }
     ensures { λ r. ⌜ r ≡ offsetRight (now (b .entry)) k ⌝ }
@@ -62,7 +62,7 @@ pub fn offsets_right(b: &[u8], n: usize) -> bool
     true
 }
 
-// The body, its payloads aside: refusal 14.
+// The body, its payloads aside: N14.
 pub fn body_right(b: &[u8]) -> bool
     ensures { λ r. ⌜ r ≡ bodyRight (now (b .entry)) ⌝ }
 {

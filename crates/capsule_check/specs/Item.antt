@@ -1,5 +1,5 @@
--- Where item k of a capsule s lies, and of which kind it is, or the refusal (document 01, "The capsule"). `Driver a e`
--- and `Payload a e` are an item from byte a of the capsule up to, not including, byte e. Assumes nothing.
+-- Where item k of a capsule s lies, and of which kind it is, or the refusal (C8, C12, C13, C22). `Driver a e` and
+-- `Payload a e` are an item from byte a of the capsule up to, not including, byte e. Assumes nothing.
 use Prim.Native.Nat.{ℕ, _+_}
 use mathlib.Core.Bool.{Bool, true, false}
 use mathlib.Core.List.{List}
@@ -13,19 +13,19 @@ use Rattle.refusal_order.specs.declared.Verdict.the-variants as Verdict
 use Rattle.capsule_check.specs.declared.Item.{Item}
 use Rattle.capsule_check.specs.declared.Item.the-variants.{Driver, Payload, Refused}
 
--- "one 64-bit offset per item, from the body's start", and "The body starts at HeaderSize."
+-- offsets count from the body's start (C8), which is at HeaderSize (C6)
 unfoldable pub itemStartIn : List ℕ → ℕ → ℕ
 itemStartIn s k = headerSize s + offset (body s) k
 
 unfoldable pub itemEndIn : List ℕ → ℕ → ℕ
 itemEndIn s k = headerSize s + itemEnd (body s) k
 
--- "drivers first"
+-- drivers come first (C8)
 abbrev pub itemOf : Bool → ℕ → ℕ → Item
 itemOf true a e = Driver a e
 itemOf false a e = Payload a e
 
--- "Every item is checked before any is handed out."
+-- the whole capsule is checked before an item is handed out (C22)
 abbrev pub found : Verdict → Item → Item
 found Passed i = i
 found (Verdict.Refused r) i = Refused r

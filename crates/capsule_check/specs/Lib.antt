@@ -1,3 +1,3 @@
--- The verdict on a capsule, and where its items lie (document 01, "The capsule"). Assumes nothing.
+-- The verdict on a capsule, and where its items lie (C8 to C13, N10 to N16). Assumes nothing.
 pub mod Verdict
 pub mod Item

@@ -1,5 +1,4 @@
--- The verdict on a capsule s, and on a capsule with an item number (document 01, "When the bench says no", 10 to 16).
--- Assumes nothing.
+-- The verdict on a capsule s, and on a capsule with an item number (N10 to N16). Assumes nothing.
 use Prim.Native.Nat.{ℕ}
 use mathlib.Core.Bool.{Bool, true, false}
 use mathlib.Core.List.{List}
@@ -19,8 +18,7 @@ abbrev pub unless : Bool → Refusal → Verdict → Verdict
 unless true r rest = rest
 unless false r rest = Refused r
 
--- 10, "capsule below 28 bytes"; 11, 12, 13, "sizes; flags; GUID"; 14, "body below 8 bytes, its version, count or
--- offsets"; 15, "a payload at fault". "within capsules by number"
+-- N10 to N15, by number (N109)
 unfoldable pub verdict : List ℕ → Verdict
 verdict s =
     unless (leb headerLeast (length s)) CapsuleShort
@@ -35,11 +33,10 @@ abbrev pub after : Verdict → Verdict → Verdict
 after Passed next = next
 after (Refused r) next = Refused r
 
--- 16, "no item of that number". "Items are numbered from 0 in list order." 16 comes last, so of a faultless capsule
--- alone
+-- N16, of a faultless capsule alone, since it comes last
 unfoldable pub itemVerdict : List ℕ → ℕ → Verdict
 itemVerdict s k = after (verdict s) (unless (ltb k (items (body s))) NoItem Passed)
 
--- "a sister entry gives the refusal number, or none, for the same input"
+-- what the sister entry gives, 0 for none (C23)
 abbrev pub refusalNumber : List ℕ → ℕ → ℕ
 refusalNumber s k = verdictNumber (itemVerdict s k)

@@ -1,6 +1,6 @@
--- How many items of each kind a capsule s has: the counts of its body (document 01, "driver count and payload count"),
--- for a caller that goes through its items without trying for 16. Document 01 asks for no such entry. A refused capsule
--- counts 0; `check` says why, and so does `refusal`, by 10 to 15, for any item number. Assumes nothing.
+-- How many items of each kind a capsule s has: the counts of its body (C25), for a caller that goes through its items
+-- without trying for 16. A refused capsule counts 0; `check` says why, and so does `refusal`, by 10 to 15, for any item
+-- number. Assumes nothing.
 use Prim.Native.Nat.{ℕ}
 use mathlib.Core.List.{List}
 use Rattle.capsule_header.specs.Header.{body}

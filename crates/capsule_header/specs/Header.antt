@@ -1,6 +1,5 @@
--- The capsule's header (document 01, "The capsule", first paragraph), in a capsule s. Sizes are whole numbers.
--- Each number reads bytes past the end of s as 0; what is said of a capsule below 28 bytes is refusal 10 alone.
--- Assumes nothing.
+-- The capsule's header (C1 to C6), in a capsule s. Sizes are whole numbers. Each number reads bytes past the end of s
+-- as 0; what is said of a capsule below 28 bytes is refusal 10 alone. Assumes nothing.
 use Prim.Native.Nat.{ℕ, _/_, _%_}
 use mathlib.Core.Bool.{Bool, not, _&&_, _||_}
 use mathlib.Core.List.{List, [], _∷_}
@@ -9,7 +8,7 @@ use lib.ListN.{length, drop}
 use Rattle.fields.specs.Number.{le}
 use Rattle.fields.specs.Guid.{guid, same}
 
--- "Header, 28 bytes: GUID; HeaderSize at 16, Flags at 20, CapsuleImageSize at 24, 32 bits each."
+-- the least length and the fields of a header (C1)
 abbrev pub headerLeast : ℕ
 headerLeast = 28
 
@@ -22,7 +21,7 @@ flags s = le 4 s 20
 unfoldable pub capsuleImageSize : List ℕ → ℕ
 capsuleImageSize s = le 4 s 24
 
--- "HeaderSize is at least 28 and at most CapsuleImageSize, which equals the length given."
+-- HeaderSize at both ends, and CapsuleImageSize against the length given (C2, C3)
 unfoldable pub sizesRight : List ℕ → Bool
 sizesRight s =
     leb headerLeast (headerSize s) && leb (headerSize s) (capsuleImageSize s) && eqb (capsuleImageSize s) (length s)
@@ -37,11 +36,11 @@ persist = 0x00010000
 abbrev pub reset : ℕ
 reset = 0x00040000
 
--- "Flag 0x00040000 (reset) needs 0x00010000 (persist). Other flags are free." The whole flag rule.
+-- C4: reset needs persist
 unfoldable pub flagsRight : ℕ → Bool
 flagsRight f = not (isSet reset f) || isSet persist f
 
--- "The GUID is 6dcbd5ed-e82d-4c44-bda1-7194199ad92a, stored as ed d5 cb 6d 2d e8 44 4c bd a1 71 94 19 9a d9 2a."
+-- C5: that of firmware management capsules (UEFI 2.10, 23.3.1)
 abbrev pub fmpGuid : List ℕ
 fmpGuid =
     0xed ∷ 0xd5 ∷ 0xcb ∷ 0x6d ∷ 0x2d ∷ 0xe8 ∷ 0x44 ∷ 0x4c ∷ 0xbd ∷ 0xa1 ∷ 0x71 ∷ 0x94 ∷ 0x19 ∷ 0x9a ∷ 0xd9 ∷ 0x2a ∷ []
@@ -49,6 +48,6 @@ fmpGuid =
 unfoldable pub guidRight : List ℕ → Bool
 guidRight s = same (guid s 0) fmpGuid
 
--- "The body starts at HeaderSize."
+-- C6: from HeaderSize on
 unfoldable pub body : List ℕ → List ℕ
 body s = drop (headerSize s) s

@@ -1,5 +1,5 @@
-// The rules on a capsule's own header, and where its body starts (document 01, "The capsule", first paragraph; UEFI
-// 2.10, 23.3). Each is a function that answers what its definition says.
+// The rules on a capsule's own header, and where its body starts (C1 to C6). Each is a function that answers what its
+// definition says.
 ghost use mathlib.Core.Path.{_≡_};
 ghost use mathlib.Core.Bool.{true};
 ghost use Prim.Native.Nat.{_≤_};
@@ -25,7 +25,7 @@ const FMP_GUID: [u8; 16] = [
     0x2a,
 ];
 
-// Refusal 11: HeaderSize at both ends, and CapsuleImageSize against the length given.
+// N11: HeaderSize at both ends, and CapsuleImageSize against the length given.
 pub fn sizes_right(s: &[u8]) -> bool
     requires { ⌜ 28 ≤ length (now s) ⌝ }
     ensures { λ r. ⌜ r ≡ sizesRight (now (s .entry)) ⌝ }
@@ -41,7 +41,7 @@ pub fn sizes_right(s: &[u8]) -> bool
     (size as usize) == s.len()
 }
 
-// Refusal 12: the flag rule.
+// N12: the rule on flags.
 pub fn flags_right(flags: u32) -> bool
     ensures { λ r. ⌜ r ≡ flagsRight flags ⌝ }
 {
@@ -51,7 +51,7 @@ pub fn flags_right(flags: u32) -> bool
     flags / 0x0001_0000 % 2 == 1
 }
 
-// Refusal 13: the GUID of firmware management capsules.
+// N13: the GUID of firmware management capsules.
 pub fn guid_right(s: &[u8]) -> bool
     requires { ⌜ 28 ≤ length (now s) ⌝ }
     ensures { λ r. ⌜ r ≡ guidRight (now (s .entry)) ⌝ }

@@ -1,7 +1,7 @@
-// A capsule's items, and the sister that gives the refusal. Every entry checks the whole capsule first and has no
-// condition: a refused one answers the empty part at the capsule's start, and `refusal` says which refusal it was, or
-// none, for the same capsule and item number. Items are numbered from 0 in list order, drivers first. What an item
-// holds is handed out by crate capsule_parts, for which `part_of` is public, as `item_span` is for c_capsule.
+// A capsule's items, and the sister that gives the refusal (C17, C18, C22 to C24). Every entry checks the whole capsule
+// first and has no condition: a refused one answers the empty part at the capsule's start, and `refusal` says which
+// refusal it was, or none, for the same capsule and item number. What an item holds is handed out by crate
+// capsule_parts, for which `part_of` is public.
 ghost use mathlib.Core.Path.{_≡_};
 ghost use Prim.Native.Nat.{_≤_};
 ghost use lib.ListN.{length};
@@ -11,9 +11,9 @@ ghost use Rattle.capsule_check.specs.Item.{located};
 ghost use Rattle.capsule_items.specs.Items.{IsPart, range, rangeOf, itemPart};
 
 // The bytes of a capsule from start up to, not including, end.
-pub struct Span {
-    pub start: usize,
-    pub end: usize,
+struct Span {
+    start: usize,
+    end: usize,
 }
 
 // The sister of all entries that take an item number: the refusal, 10 to 16, or none.
@@ -37,7 +37,7 @@ pub fn part_of(s: &[u8], a: usize, e: usize) -> &[u8]
 }
 
 // Where the whole item k lies; with a refusal the empty part at the capsule's start.
-pub fn item_span(s: &[u8], k: usize) -> Span
+fn item_span(s: &[u8], k: usize) -> Span
     ensures { λ r. ⌜ rangeOf r ≡ itemPart (located (now (s .entry)) k) ⌝ }
 {
     let found = capsule_check::locate(s, k);

@@ -1,10 +1,7 @@
 -- Every part of an item lies in its capsule. Assumes nothing.
-use mathlib.Core.Path.{_≡_}
 use mathlib.Core.List.{List}
-use Prim.Native.Nat.{ℕ, _-_, _≤_}
+use Prim.Native.Nat.{ℕ}
 use native.Mathlib.Omega.{arith}
-use lib.ListN.{length, drop, length-drop}
-use lib.Seq.{length-take-le}
 use Rattle.capsule_body.specs.Body.{part}
 use Rattle.capsule_payloads.proofs.Payload.{payload-fits}
 use Rattle.capsule_check.specs.Item.{located}
@@ -12,11 +9,8 @@ use Rattle.capsule_check.specs.declared.Item.{Item}
 use Rattle.capsule_check.specs.declared.Item.the-variants.{Driver, Payload, Refused}
 use Rattle.capsule_check.proofs.Places.{Holds, holds}
 use Rattle.capsule_items.specs.Items.{Lies}
-use Rattle.capsule_items.proofs.Items.{item-lies}
+use Rattle.capsule_items.proofs.Items.{item-lies, part-length}
 use Rattle.capsule_parts.specs.Parts.{imagePart, vendorCodePart, PartsLie}
-
-pub part-length : (s : List ℕ) (a e : ℕ) → e ≤ length s → length (part s a e) ≡ e - a
-part-length s a e h = length-take-le (e - a) (drop a s) (rw length-drop (omega arith))
 
 both-lie : (s : List ℕ) (i : Item) → Holds s i → Lies s (imagePart s i) × Lies s (vendorCodePart s i)
 unfolding Holds

@@ -1,5 +1,5 @@
--- The parts of a capsule s that are handed out for what an item holds (document 01, "The capsule"). An `Item` says
--- where the item lies, from byte a of the capsule up to, not including, byte e, or the refusal. Assumes nothing.
+-- The parts of a capsule s that are handed out for what an item holds (C16, C19, C20). An `Item` says where the item
+-- lies, from byte a of the capsule up to, not including, byte e, or the refusal. Assumes nothing.
 use Prim.Native.Nat.{ℕ, _+_}
 use mathlib.Core.List.{List}
 use Rattle.capsule_body.specs.Body.{part}
@@ -10,14 +10,13 @@ use Rattle.capsule_check.specs.Item.{located}
 use Rattle.capsule_items.specs.Items.{Range, range, Lies, emptyAtStart, itemPart}
 use Rattle.capsule_parts.specs.declared.Places.{Places}
 
--- "the whole item for a driver, the image and the vendor code for a payload": a driver's image is its whole item
--- (docs/DECISIONS.md, C1). "32 or 40 bytes, then the image"
+-- C19: a driver's image is its whole item
 abbrev pub imagePart : List ℕ → Item → Range
 imagePart s (Driver a e) = range a e
 imagePart s (Payload a e) = range (a + imageStart (part s a e)) (a + imageEnd (part s a e))
 imagePart s (Refused r) = emptyAtStart
 
--- "A driver's vendor code is the empty part at its item's end." Of a payload: "the image, then the vendor code"
+-- C20: a driver's is empty, at its item's end
 abbrev pub vendorCodePart : List ℕ → Item → Range
 vendorCodePart s (Driver a e) = range e e
 vendorCodePart s (Payload a e) = range (a + imageEnd (part s a e)) (a + vendorCodeEnd (part s a e))

@@ -1,3 +1,2 @@
--- The layout of a capsule's payloads, and the rules on them (document 01, "The capsule"; UEFI 2.10, 23.3). Assumes
--- nothing.
+-- The layout of a capsule's payloads, and the rules on them (C14 to C16). Assumes nothing.
 pub mod Payload

@@ -1,5 +1,5 @@
-// The rules on a capsule's payload headers (document 01, "The capsule"; UEFI 2.10, 23.3.2). Each is a function that
-// answers what its definition says. No byte of an image is read.
+// The rules on a capsule's payload headers (C14 to C16). Each is a function that answers what its definition says. No
+// byte of an image is read.
 use capsule_body::item_bytes;
 ghost use mathlib.Core.Path.{_≡_};
 ghost use mathlib.Core.Bool.{true};
@@ -26,8 +26,8 @@ pub fn header_length(version: u32) -> usize
     40
 }
 
-// Refusal 15, for one item: the header's version, and that header, image and vendor code fit. Both sizes are widened
-// before they are added.
+// N15, for one item: the header's version, and that header, image and vendor code fit. Both sizes are widened before
+// they are added.
 pub fn payload_right(p: &[u8]) -> bool
     ensures { λ r. ⌜ r ≡ payloadRight (now (p .entry)) ⌝ }
 {
@@ -43,7 +43,7 @@ pub fn payload_right(p: &[u8]) -> bool
     header_length(version) + image + vendor <= p.len()
 }
 
-// All payloads of a right body: refusal 15.
+// All payloads of a right body: N15.
 pub fn payloads_right(b: &[u8]) -> bool
     requires { ⌜ bodyRight (now b) ≡ true ⌝ }
     ensures { λ r. ⌜ r ≡ payloadsRight (now (b .entry)) ⌝ }

@@ -1,8 +1,7 @@
--- The values that are shown of an item of a capsule s; an `Item` says where it lies or the refusal (document 01, "The
--- capsule": "Type GUID, index and instance are shown too: version 1 shows instance 0, a driver or a refusal all
--- zeros."). Assumes nothing.
+-- The values that are shown of an item of a capsule s (C21); an `Item` says where it lies, or the refusal. Assumes
+-- nothing.
 use Prim.Native.Nat.{ℕ}
-use mathlib.Core.List.{List, []}
+use mathlib.Core.List.{List}
 use lib.ListN.{replicate}
 use Rattle.capsule_body.specs.Body.{part}
 use Rattle.capsule_payloads.specs.Payload.{typeGuid, imageIndex, hardwareInstance}
@@ -14,10 +13,6 @@ abbrev pub shown : {A : Type 0} → (f : List ℕ → A) (zeros : A) → List �
 shown f zeros s (Driver a e) = zeros
 shown f zeros s (Payload a e) = f (part s a e)
 shown f zeros s (Refused r) = zeros
-
--- the bytes themselves
-abbrev pub payloadOf : List ℕ → Item → List ℕ
-payloadOf s i = shown (λ (p : List ℕ). p) [] s i
 
 abbrev pub typeGuidOf : List ℕ → Item → List ℕ
 typeGuidOf s i = shown typeGuid (replicate 16 0) s i

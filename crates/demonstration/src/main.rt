@@ -4,13 +4,14 @@
 // The capsule is gathered and taken apart; then the area is updated twice with the image that the capsule's payload
 // names. A power cut breaks the first update's End after 5 of its 12 stores, start-up still reads the old record, and
 // repair makes both copies equal again; the second update is done whole.
-// The file stdin is made by the script crates/demonstration/make (Python 3), from document 01's layouts: the capsule
-// has one driver and one payload of version 2, cut into three blocks that lie apart, with a jump behind the first
-// descriptor; the payload's type GUID is that of image 0; every image is accepted in both banks, bank 0 is active and
-// bank 1 previous. The gate runs the program and not the script.
+// The file stdin is made by the script crates/demonstration/make (Python 3), by the layouts of docs/RULES.md: the
+// capsule has one driver and one payload of version 2, cut into three blocks that lie apart, with a jump behind the
+// first descriptor; the payload's type GUID is that of image 0; every image is accepted in both banks, bank 0 is active
+// and bank 1 previous. The check (.ci/run) runs the program and not the script.
 mod parts;
 mod steps;
 
+use parts::text;
 use steps::repaired;
 use steps::started;
 use steps::step;
@@ -28,10 +29,15 @@ fn update(a: &mut [u8], session: Session, guid: [u8; 16], most: usize) {
 
 // A session is lost with the power: behind each cut or restart, start-up tells it anew.
 fn updates(a: &mut [u8], guid: [u8; 16]) {
+    text(b"\nAn update. Power fails after 5 stores of its last call.\n");
     let first = started(a, 0);
     update(a, first, guid, 5);
+    text(
+        b"\nPower is back. Copy 0 is half written: the old record is read, from copy 1, and repaired.\n",
+    );
     started(a, 0);
     repaired(a);
+    text(b"\nThe same update again, with all of its stores. The next start is in the new bank.\n");
     let again = started(a, 0);
     update(a, again, guid, ALL);
     started(a, 1);

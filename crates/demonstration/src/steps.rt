@@ -26,8 +26,8 @@ fn show_session(s: Session) {
     match s {
         Session::Regular => text(b"Regular"),
         Session::Staging { bank, set } => {
-            named(b"Staging ", bank as u64);
-            named(b" ", set as u64);
+            named(b"Staging of bank ", bank as u64);
+            named(b", committed set ", set as u64);
         }
         Session::Trial => text(b"Trial"),
         Session::Fallback => text(b"Fallback"),
@@ -62,7 +62,7 @@ pub fn started(a: &[u8], booted: u32) -> Session {
     named(b"start-up in bank ", booted as u64);
     text(b": ");
     let session = show_started(update_start_up::start_up(a, booted));
-    text(b"\n");
+    text(b"; the report:\n");
     show_report(a);
     session
 }
@@ -92,7 +92,7 @@ fn apply(a: &mut [u8], list: &[u32], n: usize) {
 }
 
 fn show_stores(done: usize, all: usize) {
-    named(b", stores done ", done as u64);
+    named(b"; stores done: ", done as u64);
     named(b" of ", all as u64);
     if done < all {
         text(b", then a power cut");

@@ -1,5 +1,5 @@
-// Numbers of 16, 32 and 64 bits put into byte slices, little-endian: what crate fields reads. These functions serve the
-// crates above, which have tested where a field stands; each asks that of its caller.
+// Numbers of 16, 32 and 64 bits put into byte slices, little-endian (N101): what crate fields reads. These functions
+// serve the crates above, which have tested where a field stands; each asks that of its caller.
 ghost use mathlib.Core.Path.{_≡_};
 ghost use Prim.Native.Nat.{_+_, _≤_};
 ghost use lib.ListN.{length};

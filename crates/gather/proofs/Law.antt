@@ -1,5 +1,4 @@
--- What `gathered` gives is what document 01 says (specs/Law.antt), and it gives it wherever document 01 says so.
--- Assumes nothing.
+-- What `gathered` gives is what specs/Law.antt says, and it gives it wherever that says so. Assumes nothing.
 use mathlib.Core.Path.{_≡_, refl, sym, ap, _∙_}
 use mathlib.Core.Bool.{Bool, true, false, cond}
 use mathlib.Core.List.{List}
@@ -184,7 +183,7 @@ module _ (w : List ℕ) (B first : ℕ) where
   if-refused o n w′ (by-no-place t ds r some e) x = sym (same-refusal 7 n w w′ x .1)
   if-refused o n w′ (by-place t ds q r some e) x = absurd (not-refused n (put w (q - B) (blocks w B ds)) w′ q t x)
 
-  -- a refusal "changes no byte of what was lent to it" (demand 1)
+  -- a refusal alters no byte (N105)
   pub refusal-law : (n : ℕ) (w′ : List ℕ) → gathered w B first ≡ (refusal n, w′) → w′ ≡ w
   refusal-law n w′ x = if-refused (gathered w B first) n w′ way x
 

@@ -1,6 +1,6 @@
--- What gathering answers and what the window holds afterwards (document 01, "The window and the scattered list", and
--- demand 2). w is the window's bytes at entry, B the address of the first, `first` the first descriptor's address, ds
--- the addresses of the descriptors read, and total what their lengths add up to. Assumes nothing.
+-- What gathering answers and what the window holds afterwards (G12 to G15, N105, N108). w is the window's bytes at
+-- entry, B the address of the first, `first` the first descriptor's address, ds the addresses of the descriptors read,
+-- and total what their lengths add up to. Assumes nothing.
 use Prim.Native.Nat.{ℕ, _+_, _-_}
 use mathlib.Core.Bool.{Bool, true, false, cond}
 use mathlib.Core.List.{List}
@@ -26,12 +26,12 @@ abbrev pub answerOf : Gathered → Answer
 answerOf (Refused n) = refusal (numberOf n)
 answerOf (Placed p total) = place p total
 
--- a place: the blocks go there, and "Bytes outside it stay." None: 7, and no byte altered
+-- a place: the blocks go there, and every byte outside it stays (G13, G14). None: N7, and no byte altered
 unfoldable pub copiedTo : Place → List ℕ → ℕ → ℕ → List ℕ → Answer × List ℕ
 copiedTo (At p) w B total ds = (place p total, put w (p - B) (blocks w B ds))
 copiedTo Nowhere w B total ds = (refusal (numberOf NoPlace), w)
 
--- a list that was refused: its number, and no byte altered. A list read whole: "Then 6, then 7."
+-- a list that was refused: its number, and no byte altered. A list read whole: N6, then N7
 unfoldable pub finished : List ℕ → ℕ → Reading → Answer × List ℕ
 finished w B (refused n) = (refusal (numberOf n), w)
 finished w B (whole total ds) =

@@ -1,6 +1,5 @@
 -- What a place and each refusal are proved to mean where `gathered` gives them, said without the walk and without the
--- search (proofs/Law.antt), in the words of document 01 and of demand 2. Names as in specs/Gather.antt. Assumes
--- nothing.
+-- search (proofs/Law.antt). Names as in specs/Gather.antt. Assumes nothing.
 use Prim.Native.Nat.{ℕ, _+_, _-_, _≤_, _<_}
 use mathlib.Core.List.{List}
 use mathlib.Core.Logic.{_⊎_}
@@ -14,8 +13,7 @@ use Rattle.gather_place.specs.Law.{LowestFree, NoneFree}
 use Rattle.gather_blocks.specs.Blocks.{blocks}
 use Rattle.gather.specs.Gather.{refusal, gathered}
 
--- success: "the blocks, in list order, at the lowest place that shares no byte with a block or a descriptor read,
--- changes nothing else"
+-- success: the blocks in list order at the lowest free place, and nothing else changed (G12 to G14)
 pub record Succeeded (w : List ℕ) (B first p total : ℕ) (afterwards : List ℕ) : Type 0 where
   pub descriptors : List ℕ
   pub list : Faultless w B first descriptors
@@ -28,14 +26,14 @@ pub record Succeeded (w : List ℕ) (B first p total : ℕ) (afterwards : List �
   pub at-place : (k : ℕ) → k < total → getD afterwards (p - B + k) 0 ≡ getD (blocks w B descriptors) k 0
   pub outside : (i : ℕ) → (i < p - B) ⊎ (p - B + total ≤ i) → getD afterwards i 0 ≡ getD w i 0
 
--- 6: "total 0"
+-- N6: the total is 0
 pub record WasEmpty (w : List ℕ) (B first : ℕ) (afterwards : List ℕ) : Type 0 where
   pub descriptors : List ℕ
   pub list : Faultless w B first descriptors
   pub zero : lengths w B descriptors ≡ 0
   pub unchanged : afterwards ≡ w
 
--- 7: "says no room only where no such place exists"
+-- N7: no place is free
 pub record HadNoPlace (w : List ℕ) (B first : ℕ) (afterwards : List ℕ) : Type 0 where
   pub descriptors : List ℕ
   pub list : Faultless w B first descriptors
@@ -43,14 +41,15 @@ pub record HadNoPlace (w : List ℕ) (B first : ℕ) (afterwards : List ℕ) : T
   pub none : NoneFree w B (lengths w B descriptors) descriptors
   pub unchanged : afterwards ≡ w
 
--- 1 to 5: "in list order; the first fault is the answer"
+-- N1 to N5, by the list's first fault (N108)
 pub record HadFault (w : List ℕ) (B first number : ℕ) (afterwards : List ℕ) : Type 0 where
   pub fault : Refusal
   pub numbered : numberOf fault ≡ number
   pub answered : FirstFault w B first fault
   pub unchanged : afterwards ≡ w
 
--- each of them is given exactly if it is the list's first fault, and a list that comes back to a descriptor gets 2 or 5
+-- each of them is given exactly if it is the list's first fault; a list that comes back to a descriptor gets 2 or 5
+-- (G17)
 pub record ListRefusals (w : List ℕ) (B first : ℕ) : Type 0 where
   pub only : (n : ℕ) (w′ : List ℕ) → n ≤ 5 → gathered w B first ≡ (refusal n, w′) → HadFault w B first n w′
   pub there : (n : Refusal) → FirstFault w B first n → gathered w B first ≡ (refusal (numberOf n), w)

@@ -1,5 +1,4 @@
-// Gathering a capsule that lies scattered in a memory window (document 01, "The window and the scattered list").
-// The entry is `gather`: refusals 1 to 7.
+// Gathering a capsule that lies scattered in a memory window (G1 to G17). The entry is `gather`: refusals 1 to 7.
 use gather_blocks::copy_blocks;
 use gather_descriptors::DESCRIPTOR_LIMIT;
 use gather_descriptors::Read;

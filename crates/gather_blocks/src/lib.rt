@@ -1,5 +1,4 @@
-// The copy of a scattered list's blocks, in list order, to the place that gathering found (document 01, "The window and
-// the scattered list").
+// The copy of a scattered list's blocks, in list order, to the place that gathering found (G13, G14).
 use fields::read64;
 use gather_descriptors::DESCRIPTOR_LIMIT;
 ghost use mathlib.Core.Path.{_≡_};

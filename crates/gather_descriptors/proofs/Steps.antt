@@ -15,7 +15,7 @@ use Rattle.fields.proofs.Tests.{both}
 use Rattle.refusals.specs.declared.Refusal.the-variants.{DescriptorCount, DescriptorAddress}
 use Rattle.gather_window.specs.Window.{within, descriptorFits}
 use Rattle.gather_descriptors.specs.Reading.{Reading, refused, whole, withDescriptor, lengthOf, addressOf, jumpOrEnd, dataBlock, walk}
-use Rattle.gather_descriptors.specs.Scratch.{Kept}
+use Rattle.gather_descriptors.specs.Scratch.{ScratchHolds}
 use Rattle.gather_descriptors.specs.declared.Read.{Read}
 use Rattle.gather_descriptors.specs.declared.Read.the-variants.{Refused, Whole}
 
@@ -65,8 +65,8 @@ unfolding walk
 walk-more zero w B a t f = absurd (f refl)
 walk-more (suc k) w B a t f = rw (sub-one (suc k))
 
-kept-after : (X : Reading) (k d : ℕ) (old new : List ℕ) (r : Read) → k < length old → Kept X (k + 1) (set old k d) new r → Kept (withDescriptor d X) k old new r
-unfolding Kept withDescriptor
+kept-after : (X : Reading) (k d : ℕ) (old new : List ℕ) (r : Read) → k < length old → ScratchHolds X (k + 1) (set old k d) new r → ScratchHolds (withDescriptor d X) k old new r
+unfolding ScratchHolds withDescriptor
 kept-after (refused n) k d old new r lt h = h
 kept-after (whole t ds) k d old new r lt h =
     let e : k + length (d ∷ ds) ≡ k + 1 + length ds = omega arith in
@@ -77,15 +77,15 @@ kept-after (whole t ds) k d old new r lt h =
     )
 
 module _ (w : List ℕ) (B at t l : ℕ) (old new : List ℕ) (some : l ≡ 0 → ⊥) where
-  pub bad-address : descriptorFits B (length w) (B + at) ≡ false → Kept (walk l w B (B + at) t) (256 - l) old new (Refused DescriptorAddress)
-  unfolding Kept
+  pub bad-address : descriptorFits B (length w) (B + at) ≡ false → ScratchHolds (walk l w B (B + at) t) (256 - l) old new (Refused DescriptorAddress)
+  unfolding ScratchHolds
   bad-address e = rw (walk-more l w B (B + at) t some, e)
 
   -- past the address test: the descriptor stands first, and what follows goes by its two numbers
   pub went-on : (r : Read) (len adr : ℕ) → descriptorFits B (length w) (B + at) ≡ true → len ≡ le 8 w at → adr ≡ le 8 w (at + 8)
       → l ≤ 256 → length old ≡ 256 → (X : Reading) → rest (l - 1) w B (B + at) t len adr ≡ X
-      → Kept X (256 - (l - 1)) (set old (256 - l) (B + at)) new r
-      → Kept (walk l w B (B + at) t) (256 - l) old new r
+      → ScratchHolds X (256 - (l - 1)) (set old (256 - l) (B + at)) new r
+      → ScratchHolds (walk l w B (B + at) t) (256 - l) old new r
   went-on r len adr e el ea le lo X ex h =
       let m : 256 - (l - 1) ≡ 256 - l + 1 = omega arith in
       let o : B + at - B ≡ at = omega arith in
@@ -93,19 +93,19 @@ module _ (w : List ℕ) (B at t l : ℕ) (old new : List ℕ) (some : l ≡ 0 �
       rw (length-at w B (B + at), address-at w B (B + at) (omega arith), o, ← el, ← ea) ex in
       rw (walk-more l w B (B + at) t some, e, x) (kept-after X (256 - l) (B + at) old new r (omega arith) (rw m at h))
 
-pub ended : (a t : ℕ) (next : ℕ → Reading) (k : ℕ) (old : List ℕ) → a ≡ 0 → Kept (jumpOrEnd a t next) k old old (Whole k t)
-unfolding Kept jumpOrEnd
+pub ended : (a t : ℕ) (next : ℕ → Reading) (k : ℕ) (old : List ℕ) → a ≡ 0 → ScratchHolds (jumpOrEnd a t next) k old old (Whole k t)
+unfolding ScratchHolds jumpOrEnd
 ended a t next k old e = rw (e, add-zero) (refl, sym (append-nil (take k old)), refl)
 
-pub none-left : (w : List ℕ) (B a t l k : ℕ) (old new : List ℕ) → l ≡ 0 → Kept (walk l w B a t) k old new (Refused DescriptorCount)
-unfolding Kept walk
+pub none-left : (w : List ℕ) (B a t l k : ℕ) (old new : List ℕ) → l ≡ 0 → ScratchHolds (walk l w B a t) k old new (Refused DescriptorCount)
+unfolding ScratchHolds walk
 none-left w B a t l k old new e = rw e
 
-pub below : (w : List ℕ) (B a t l k : ℕ) (old new : List ℕ) → (l ≡ 0 → ⊥) → a < B → Kept (walk l w B a t) k old new (Refused DescriptorAddress)
-unfolding Kept descriptorFits within
+pub below : (w : List ℕ) (B a t l k : ℕ) (old new : List ℕ) → (l ≡ 0 → ⊥) → a < B → ScratchHolds (walk l w B a t) k old new (Refused DescriptorAddress)
+unfolding ScratchHolds descriptorFits within
 below w B a t l k old new some h = rw walk-more (simp (lt-leb B a h, and-false))
 
-pub jumped-on : (w : List ℕ) (B a t l k : ℕ) (old new : List ℕ) (r : Read) → (a ≡ 0 → ⊥) → Kept (walk l w B a t) k old new r
-    → Kept (jumpOrEnd a t (λ next. walk l w B next t)) k old new r
+pub jumped-on : (w : List ℕ) (B a t l k : ℕ) (old new : List ℕ) (r : Read) → (a ≡ 0 → ⊥) → ScratchHolds (walk l w B a t) k old new r
+    → ScratchHolds (jumpOrEnd a t (λ next. walk l w B next t)) k old new r
 unfolding jumpOrEnd
 jumped-on w B a t l k old new r some h = rw (ne-eqb a 0 some) h

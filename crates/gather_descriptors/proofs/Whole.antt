@@ -16,7 +16,7 @@ use Rattle.refusals.specs.declared.Refusal.the-variants.{WindowEnd, DescriptorC
 use Rattle.gather_window.specs.Window.{pastEnd, within, descriptorFits}
 use Rattle.gather_descriptors.specs.Reading.{Reading, refused, whole, withDescriptor, lengthOf, addressOf, jumpOrEnd, dataBlock, walk, reading, descriptorLimit, totalLimit}
 use Rattle.gather_descriptors.specs.Law.{Inside, Outside, Link, past-block, by-jump, Links, none, more, Chain, link, end, Placed, Faultless, Fault, too-many, unaligned, not-inside, block-outside, total-passed, FirstFault, past-end, behind, ComesBack, ReadingLaws}
-use Rattle.gather_descriptors.specs.Scratch.{Kept, AllReadable, lengths}
+use Rattle.gather_descriptors.specs.Scratch.{ScratchHolds, AllReadable, lengths}
 use Rattle.gather_descriptors.specs.declared.Read.{Read}
 use Rattle.gather_descriptors.specs.declared.Read.the-variants.{Refused, Whole}
 use Rattle.gather_descriptors.proofs.Steps.{rest, walk-more, within-ends, within-of, descriptor-ends, descriptor-aligned, fits-of}
@@ -422,14 +422,14 @@ refused-early w B a n e = go (fault-law w B a n e)
     go (behind _ _ _ f) = by-fault f
 
 -- the answer and the array decide the reading
-pub was-refused : (X : Reading) (k : ℕ) (old new : List ℕ) (r : Read) (n : Refusal) → Kept X k old new r → r ≡ Refused n → X ≡ refused n
-unfolding Kept
+pub was-refused : (X : Reading) (k : ℕ) (old new : List ℕ) (r : Read) (n : Refusal) → ScratchHolds X k old new r → r ≡ Refused n → X ≡ refused n
+unfolding ScratchHolds
 was-refused (refused m) k old new r n h e = cc
 was-refused (whole t ds) k old new r n h e = let z = h .0 in let b : _≡_ {A = ℕ} 0 1 = cc in absurd (omega arith)
 
-pub was-whole : (X : Reading) (old new : List ℕ) (r : Read) (n t : ℕ) → Kept X 0 old new r → r ≡ Whole n t
+pub was-whole : (X : Reading) (old new : List ℕ) (r : Read) (n t : ℕ) → ScratchHolds X 0 old new r → r ≡ Whole n t
     → (X ≡ whole t (take n new)) × (n ≡ length (take n new)) × (length new ≡ length old)
-unfolding Kept
+unfolding ScratchHolds
 was-whole (refused m) old new r n t h e = let b : _≡_ {A = ℕ} 0 1 = cc in absurd (omega arith)
 was-whole (whole T ds) old new r n t h e =
     let z = h .0 in

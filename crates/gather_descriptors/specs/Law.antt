@@ -10,15 +10,15 @@ use Rattle.refusals.specs.declared.Refusal.the-variants.{WindowEnd, DescriptorC
 use Rattle.gather_descriptors.specs.Reading.{refused, whole, reading, lengthOf, addressOf, descriptorLimit, totalLimit}
 use Rattle.gather_descriptors.specs.Scratch.{lengths}
 
--- n bytes at the address a lie in the window, or not all of them: "Both ends count, in whole numbers that never wrap."
+-- n bytes at the address a lie in the window, or not all of them (G8)
 abbrev pub Inside : List ℕ → ℕ → ℕ → ℕ → Type 0
 Inside w B a n = (B ≤ a) × (a + n ≤ B + length w)
 
 abbrev pub Outside : List ℕ → ℕ → ℕ → ℕ → Type 0
 Outside w B a n = (a < B) ⊎ (B + length w < a + n)
 
--- the descriptor at a leads to b: "Length above 0: a data block. Length 0 and Address above 0: go on at Address."
--- Behind a data block the next stands 16 bytes on
+-- the descriptor at a leads to b: behind a data block the next stands 16 bytes on, a jump goes to its Address (G3, G4,
+-- G6)
 pub data Link (w : List ℕ) (B a b : ℕ) : Type 0 where
   past-block : 0 < lengthOf w B a → b ≡ a + 16 → Link w B a b
   by-jump : lengthOf w B a ≡ 0 → 0 < addressOf w B a → b ≡ addressOf w B a → Link w B a b
@@ -28,17 +28,17 @@ pub data Links (w : List ℕ) (B : ℕ) : ℕ → List ℕ → ℕ → Type 0 wh
   none : {a : ℕ} → Links w B a [] a
   more : {a b c : ℕ} {ds : List ℕ} → Link w B a c → Links w B c ds b → Links w B a (a ∷ ds) b
 
--- the descriptors from a on up to the end: "Both 0: end."
+-- the descriptors from a on up to the end (G5)
 pub data Chain (w : List ℕ) (B : ℕ) : ℕ → List ℕ → Type 0 where
   link : {a b : ℕ} {ds : List ℕ} → Link w B a b → Chain w B b ds → Chain w B a (a ∷ ds)
   end : {a : ℕ} → lengthOf w B a ≡ 0 → addressOf w B a ≡ 0 → Chain w B a (a ∷ [])
 
 -- no address and no block of the descriptors ds is at fault
 pub record Placed (w : List ℕ) (B : ℕ) (ds : List ℕ) : Type 0 where
-  -- "A descriptor's address must be a multiple of 8 and all 16 bytes must lie in the window."
+  -- where descriptors stand (G7)
   pub aligned : (i : ℕ) → i < length ds → getD ds i 0 % 8 ≡ 0
   pub inside : (i : ℕ) → i < length ds → Inside w B (getD ds i 0) 16
-  -- "A block must lie wholly in the window."
+  -- where blocks lie (G8)
   pub blocks : (i : ℕ) → i < length ds → 0 < lengthOf w B (getD ds i 0)
       → Inside w B (addressOf w B (getD ds i 0)) (lengthOf w B (getD ds i 0))
 
@@ -47,9 +47,9 @@ pub record Faultless (w : List ℕ) (B first : ℕ) (ds : List ℕ) : Type 0 whe
   pub window : B + length w ≤ 2 ^ 64
   pub chain : Chain w B first ds
   pub placed : Placed w B ds
-  -- "At most 256 descriptors are read, jumps and the end included."
+  -- how many descriptors there are (G9)
   pub count : length ds ≤ descriptorLimit
-  -- "Lengths add up to at most 16,777,216."
+  -- what their lengths add up to (G10)
   pub total : lengths w B ds ≤ totalLimit
 
 -- a faultless beginning of a list: the descriptors ds, none of them the end, and the address of the one that comes next
@@ -60,23 +60,23 @@ pub record Beginning (w : List ℕ) (B first : ℕ) (ds : List ℕ) (next : ℕ)
   pub count : length ds ≤ descriptorLimit
   pub total : lengths w B ds ≤ totalLimit
 
--- the first fault of the descriptor at a, behind `read` others whose lengths add up to total: "For each descriptor:
--- count (2), address (3), block (4), total (5)"
+-- the first fault of the descriptor at a, behind `read` others whose lengths add up to total: count, address, block,
+-- total (N108)
 pub data Fault (w : List ℕ) (B read total a : ℕ) : Refusal → Type 0 where
-  -- 2: "257th descriptor"
+  -- N2: a 257th descriptor
   too-many : read ≡ descriptorLimit → Fault w B read total a DescriptorCount
-  -- 3: "descriptor address"
+  -- N3: its address
   unaligned : read < descriptorLimit → 0 < a % 8 → Fault w B read total a DescriptorAddress
   not-inside : read < descriptorLimit → Outside w B a 16 → Fault w B read total a DescriptorAddress
-  -- 4: "block"
+  -- N4: its block
   block-outside : read < descriptorLimit → a % 8 ≡ 0 → Inside w B a 16 → 0 < lengthOf w B a
       → Outside w B (addressOf w B a) (lengthOf w B a) → Fault w B read total a BlockOutside
-  -- 5: "total"
+  -- N5: the total
   total-passed : read < descriptorLimit → a % 8 ≡ 0 → Inside w B a 16 → 0 < lengthOf w B a
       → Inside w B (addressOf w B a) (lengthOf w B a) → totalLimit < total + lengthOf w B a → Fault w B read total a TotalLength
 
--- "in list order; the first fault is the answer": 1, "B + N above 2^64"; or a faultless beginning of the list and the
--- fault of the descriptor behind it
+-- the list's first fault: the window's end (N1); or a faultless beginning of the list and the fault of the descriptor
+-- behind it (N108)
 pub data FirstFault (w : List ℕ) (B first : ℕ) : Refusal → Type 0 where
   past-end : 2 ^ 64 < B + length w → FirstFault w B first WindowEnd
   behind : {n : Refusal} (ds : List ℕ) (next : ℕ) → Beginning w B first ds next
@@ -99,5 +99,5 @@ pub record ReadingLaws (w : List ℕ) (B first : ℕ) : Type 0 where
   -- each of 1 to 5 is given exactly if it is the first fault
   pub refused-only : (n : Refusal) → reading w B first ≡ refused n → FirstFault w B first n
   pub refused-there : (n : Refusal) → FirstFault w B first n → reading w B first ≡ refused n
-  -- "A loop thus meets refusal 2", or 5; which of the two is for `refused-only` to say
+  -- G17; which of the two is for `refused-only` to say
   pub loop : ComesBack w B first → (reading w B first ≡ refused DescriptorCount) ⊎ (reading w B first ≡ refused TotalLength)

@@ -11,9 +11,9 @@ use Rattle.gather_descriptors.specs.declared.Read.the-variants.{Refused,
 
 -- a reading that began with k addresses kept in old: its answer and, where the list was read whole, the array's front
 -- afterwards
-unfoldable pub Kept : Reading → ℕ → List ℕ → List ℕ → Read → Type 0
-Kept (refused n) k old new r = r ≡ Refused n
-Kept (whole total ds) k old new r =
+unfoldable pub ScratchHolds : Reading → ℕ → List ℕ → List ℕ → Read → Type 0
+ScratchHolds (refused n) k old new r = r ≡ Refused n
+ScratchHolds (whole total ds) k old new r =
     (r ≡ Whole (k + length ds) total) × (take (k + length ds) new ≡ take k old ++ ds) × (length new ≡ length old)
 
 -- the descriptor at d and its block, if it has one, lie in the window

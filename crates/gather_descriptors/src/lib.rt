@@ -1,5 +1,5 @@
-// The scattered list of block descriptors (document 01, "The window and the scattered list"): refusals 1 to 5.
-// The code goes by offsets in the window, the definitions by addresses (crate window).
+// The scattered list of descriptors (G2 to G11): refusals 1 to 5. The code goes by offsets in the window, the
+// definitions by addresses (crate gather_window).
 use fields::read64;
 use gather_window::block_fits;
 use gather_window::descriptor_fits;
@@ -9,12 +9,12 @@ ghost use mathlib.Core.Path.{_≡_};
 ghost use Prim.Native.Nat.{_+_, _-_, _^_, _≤_};
 ghost use lib.ListN.{length};
 ghost use Rattle.gather_descriptors.specs.Reading.{jumpOrEnd, walk, reading};
-ghost use Rattle.gather_descriptors.specs.Scratch.{Kept};
+ghost use Rattle.gather_descriptors.specs.Scratch.{ScratchHolds};
 
-// How many descriptors are read at most, jumps and the end included.
+// How many descriptors are read at most, jumps and the end included (G9).
 pub const DESCRIPTOR_LIMIT: usize = 256;
 
-// How much the lengths may add up to.
+// How much the lengths may add up to (G10).
 const TOTAL_LIMIT: u64 = 16777216;
 
 // What reading a list gives: a refusal, or how many descriptors it has and what their lengths add up to.
@@ -34,7 +34,8 @@ fn run(
     ds: &mut [u64; DESCRIPTOR_LIMIT],
 ) -> Read
     requires { ⌜ (left ≤ 256) × (total ≤ 16777216) × (base + length (now w) ≤ 2 ^ 64) × (length (now ds) ≡ 256) ⌝ }
-    ensures { λ r. ⌜ Kept (walk left (now (w .entry)) base (base + at) total) (256 - left) (now (ds .entry)) (now (ds .exit)) r ⌝ }
+    ensures { λ r. ⌜ ScratchHolds (walk left (now (w .entry)) base (base + at) total)
+        (256 - left) (now (ds .entry)) (now (ds .exit)) r ⌝ }
 {
     if left == 0 {
         return Read::Refused(Refusal::DescriptorCount);
@@ -68,7 +69,7 @@ fn jump(
     ds: &mut [u64; DESCRIPTOR_LIMIT],
 ) -> Read
     requires { ⌜ (left ≤ 256) × (total ≤ 16777216) × (base + length (now w) ≤ 2 ^ 64) × (length (now ds) ≡ 256) ⌝ }
-    ensures { λ r. ⌜ Kept (jumpOrEnd address total (λ next. walk left (now (w .entry)) base next total))
+    ensures { λ r. ⌜ ScratchHolds (jumpOrEnd address total (λ next. walk left (now (w .entry)) base next total))
         (256 - left) (now (ds .entry)) (now (ds .exit)) r ⌝ }
 {
     if address == 0 {
@@ -88,7 +89,7 @@ fn jump(
 // list order, stand first in `ds`.
 pub fn read_list(w: &[u8], base: u64, first: u64, ds: &mut [u64; DESCRIPTOR_LIMIT]) -> Read
     requires { ⌜ length (now ds) ≡ 256 ⌝ }
-    ensures { λ r. ⌜ Kept (reading (now (w .entry)) base first) 0 (now (ds .entry)) (now (ds .exit)) r ⌝ }
+    ensures { λ r. ⌜ ScratchHolds (reading (now (w .entry)) base first) 0 (now (ds .entry)) (now (ds .exit)) r ⌝ }
 {
     if !window_fits(base, w.len()) {
         return Read::Refused(Refusal::WindowEnd);

@@ -1,4 +1,4 @@
--- The place that is computed is the one that document 01's sentence names (specs/Law.antt). Assumes nothing.
+-- The place that is computed is the one that G12 names (specs/Law.antt). Assumes nothing.
 use mathlib.Core.Path.{_≡_, refl, sym, _∙_}
 use mathlib.Core.Bool.{Bool, true, false}
 use mathlib.Core.Logic.{_⊎_, ⊎-elim}
@@ -70,7 +70,7 @@ module _ (w : List ℕ) (B t : ℕ) (ds : List ℕ) where
     not-free : (p : ℕ) → free w B t ds p ≡ false → Free w B t ds p → ⊥
     not-free p e f = no-true (sym e ∙ law-free p f)
 
-    -- "the lowest start whose range ...": the place that is found is free, and no lower start is
+    -- G12: the place that is found is free, and no lower start is
     pub place-law : (p : ℕ) → placeFor w B t ds ≡ At p → LowestFree w B t ds p
     unfolding placeFor
     place-law p e =

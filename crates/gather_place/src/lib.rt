@@ -1,6 +1,6 @@
-// The place for the gathered blocks: the lowest free start (document 01, "The window and the scattered list"). Where
-// the range at a start shares a byte with a block or a descriptor, so does the range at every start up to that one's
-// end. So only the window's start and ends of blocks and descriptors are tried, each once: at most 512 starts.
+// The place for the gathered blocks: the lowest free start (G12). Where the range at a start shares a byte with a block
+// or a descriptor, so does the range at every start up to that one's end. So only the window's start and ends of blocks
+// and descriptors are tried, each once: at most 512 starts (G16).
 use fields::read64;
 use gather_descriptors::DESCRIPTOR_LIMIT;
 ghost use mathlib.Core.Path.{_≡_};

@@ -1,5 +1,5 @@
--- What an accepted call tells, of any of the six: its tests found no fault, it lists the stores of the new record, and that record is
--- sound. Assumes nothing.
+-- What an accepted call tells, of any of the six: its tests found no fault, it lists the stores of the new record, and
+-- that record is sound. Assumes nothing.
 use mathlib.Core.Path.{_≡_, refl, sym, ap, _∙_}
 use mathlib.Core.Bool.{true, false, cond, not, _&&_}
 use mathlib.Core.List.{List, [], _∷_}
@@ -41,7 +41,7 @@ staged q r f =
     let u = both (eqb (state r (bankOf q)) invalid) (ltb (setOf q) (2 ^ imageCount r)) (p .1) in
     ap (state r) (sym (eqb-true (bankOf q) (updateBankOf r) (p .0))) ∙ eqb-true (state r (bankOf q)) invalid (u .0)
 
--- what the tests shut out is all that is asked of the record
+-- what the tests exclude is all that is asked of the record
 asked : (k : Call) (q : Session) (r : List ℕ) → stagingTest q r .0 ≡ false → NoFault (ownTests k q r) → Asks (changeOf k r) r
 unfolding ownTests changeOf
 asked begin q r e p = tt

@@ -1,9 +1,8 @@
--- What an accepted call tells of the record that it makes and of the session that it answers (document 01, "Session and
--- calls"): the new record is sound and is what the call's line says; a Staging session that is answered fits it, so
--- that a caller who did all the stores does not meet 24; and a start-up in the bank that is active then gives the
--- session named here. That Cancel answers Regular whatever the active bank's state is document 01's (docs/DECISIONS.md,
--- L5). k is a call, q the session given, a the bytes of the area, s the numbers of the store slice, r the bytes of the
--- record that both copies hold. Assumes nothing.
+-- What an accepted call tells of the record that it makes and of the session that it answers (S19, S20): the new record
+-- is sound and is what the call's rule says; a Staging session that is answered fits it, so that a caller who did all
+-- the stores does not meet 24; and a start-up in the bank that is active then gives the session named here. Cancel
+-- answers Regular whatever the active bank's state (S11). k is a call, q the session given, a the bytes of the area, s
+-- the numbers of the store slice, r the bytes of the record that both copies hold. Assumes nothing.
 use Prim.Native.Nat.{ℕ}
 use mathlib.Core.Path.{_≡_}
 use mathlib.Core.Bool.{false, cond}
@@ -37,7 +36,7 @@ startedAfter (accept g) r = afterAccept (imageWith g r) r
 startedAfter selectPrevious r = Regular
 
 --     kept       the new record is sound, bytes, and as long as the old one
---     makes      what it is, field by field: what the call's line alters, and every other byte but the CRC's as it was
+--     makes      what it is, field by field: what the call's rule alters, and every other byte but the CRC's as it was
 --     no-fault   24 is not given to a call with the session answered, on the new record
 --     starts     start-up in the bank that the new record names as active
 pub record Tells (k : Call) (q : Session) (r : List ℕ) : Type 0 where

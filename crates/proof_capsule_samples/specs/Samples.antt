@@ -1,5 +1,5 @@
--- What the definitions compute: a capsule with one driver and one payload, the flag rule, document 01's sample 12, 13
--- and 15. No contract cites this file. Assumes nothing.
+-- What the definitions compute: a capsule with one driver and one payload, the rule on flags, the customer's sample 12,
+-- refusals 13 and 15. No contract cites this file. Assumes nothing.
 use Prim.Native.Nat.{ℕ}
 use mathlib.Core.Path.{_≡_, refl}
 use mathlib.Core.List.{List, [], _∷_, _++_}
@@ -53,13 +53,13 @@ payload-bytes : (part sample 95 97 ≡ 0xa1 ∷ 0xa2 ∷ []) × (part sample 97 
 unfolding bytes
 payload-bytes = (refl, refl)
 
--- "Flag 0x00040000 (reset) needs 0x00010000 (persist). Other flags are free."
+-- the rule on flags (C4)
 flag-rule : (flagsRight 0x00040000 ≡ false) × (flagsRight 0x00050000 ≡ true)
     × (flagsRight 0x00020000 ≡ true) × (flagsRight 0xfffeffff ≡ false)
 unfolding flagsRight
 flag-rule = (refl, refl, refl, refl)
 
--- sample 12: "Capsule of 27 bytes: 10; of 28 with HeaderSize 27: 11; else sound, with a body of 7: 14."
+-- sample 12: a capsule of 27 bytes; of 28 with HeaderSize 27; else sound, with a body of 7
 sample-12 : (verdictNumber (verdict (replicate 27 0)) ≡ 10) × (verdictNumber (verdict (header 27 28)) ≡ 11)
     × (verdictNumber (verdict (header 28 35 ++ bytes 4 1 ++ replicate 3 0)) ≡ 14)
 unfolding le bytes guid same headerSize flags capsuleImageSize sizesRight flagsRight guidRight body bodyVersion bodyRight verdict

@@ -1,2 +1,2 @@
-// What the definitions of capsules compute on a small capsule, and document 01's sample 12 (specs/Samples.antt). There
+// What the definitions of capsules compute on a small capsule, and the customer's sample 12 (specs/Samples.antt). There
 // is no code here.

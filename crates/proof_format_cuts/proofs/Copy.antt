@@ -10,7 +10,7 @@ use lib.Seq.{take-all, take-append-seam, drop-append-seam}
 use Rattle.fields.specs.Guid.{same}
 use Rattle.fields.proofs.Guid.{same-true}
 use Rattle.proof_format_cuts.specs.Area.{afterStores, afterCut}
-use Rattle.proof_format_cuts.specs.Format.{Format, FormatLaws, Writer, WriterLaws, Writable, recordOf, soundCopy, over, Inside}
+use Rattle.proof_format_cuts.specs.Format.{Format, FormatLaws, Writer, WriterLaws, Writable, recordOf, soundCopy, over, StoresInside}
 use Rattle.proof_format_cuts.specs.Theorem.{sparing}
 use Rattle.proof_format_cuts.proofs.Runs.{inside-take, inside-more, stores-length}
 
@@ -76,7 +76,7 @@ module _ (F : Format) (W : Writer) where
 
 -- a write of r over c, cut after n of its stores
 module _ (F : Format) (laws : FormatLaws F) (W : Writer) (w : WriterLaws F W) (c r : List ℕ) (f : Writable F c r) where
-  pub in-copy : Inside (length c) (W c r)
+  pub in-copy : StoresInside (length c) (W c r)
   in-copy = rw (f .long) (inside-more (length r) (F .copySize) (W c r) (laws .fits r (f .is-sound)) (w .inside c r f))
 
   pub part-length : (n : ℕ) → length (afterStores c (take n (W c r))) ≡ F .copySize

@@ -11,7 +11,7 @@ use Rattle.fields.proofs.Number.{length-bytes}
 use Rattle.fields.proofs.Bytes.{bytes-small, put-bytes, word-length}
 use Rattle.record_stores.specs.Stores.{Store, shift}
 use Rattle.proof_format_cuts.specs.Area.{afterStore, afterStores, Each}
-use Rattle.proof_format_cuts.specs.Format.{Inside}
+use Rattle.proof_format_cuts.specs.Format.{StoresInside}
 
 -- ---- the first n of a list
 take-append {ℓ} : {A : Type ℓ} (n : ℕ) (xs ys : List A) → take n (xs ++ ys) ≡ take n xs ++ take (n - length xs) ys
@@ -43,10 +43,10 @@ pub each-weaken : (P Q : Store → Type 0) (ss : List Store) → ((s : Store) �
 each-weaken P Q [] f p = tt
 each-weaken P Q (s ∷ ss) f p = (f s (p .0), each-weaken P Q ss f (p .1))
 
-pub inside-take : (h n : ℕ) (ss : List Store) → Inside h ss → Inside h (take n ss)
+pub inside-take : (h n : ℕ) (ss : List Store) → StoresInside h ss → StoresInside h (take n ss)
 inside-take h n ss i = each-take (λ s. s .0 + 4 ≤ h) n ss i
 
-pub inside-more : (g h : ℕ) (ss : List Store) → g ≤ h → Inside g ss → Inside h ss
+pub inside-more : (g h : ℕ) (ss : List Store) → g ≤ h → StoresInside g ss → StoresInside h ss
 inside-more g h ss k i = each-weaken (λ s. s .0 + 4 ≤ g) (λ s. s .0 + 4 ≤ h) ss (λ s p. omega arith) i
 
 -- ---- stores are done in order, and bytes stay bytes
@@ -77,14 +77,14 @@ unfolding afterStore put
 store-right xs ys o w = rw (take-append-add, add-assoc, drop-append-add) (simp append-assoc)
 
 -- ---- any stores
-pub stores-length : (l : List ℕ) (ss : List Store) → Inside (length l) ss → length (afterStores l ss) ≡ length l
+pub stores-length : (l : List ℕ) (ss : List Store) → StoresInside (length l) ss → length (afterStores l ss) ≡ length l
 unfolding afterStores
 stores-length l [] i = refl
 stores-length l (s ∷ ss) i =
     let e : length (afterStore l s) ≡ length l = store-length l s (i .0) in
     stores-length (afterStore l s) ss (rw e (i .1)) ∙ e
 
-pub stores-left : (xs ys : List ℕ) (ss : List Store) → Inside (length xs) ss → afterStores (xs ++ ys) ss ≡ afterStores xs ss ++ ys
+pub stores-left : (xs ys : List ℕ) (ss : List Store) → StoresInside (length xs) ss → afterStores (xs ++ ys) ss ≡ afterStores xs ss ++ ys
 unfolding afterStores
 stores-left xs ys [] i = refl
 stores-left xs ys (s ∷ ss) i =
@@ -97,10 +97,10 @@ stores-right xs ys (s ∷ ss) =
     ap (λ l. afterStores l (map (shift (length xs)) ss)) (store-right xs ys (s .0) (s .1)) ∙ stores-right xs (afterStore ys s) ss
 
 -- stores in the first part, then stores in the second, cut after n: each part is cut by itself
-pub stores-both : (xs ys : List ℕ) (ss ts : List Store) (n : ℕ) → Inside (length xs) ss
+pub stores-both : (xs ys : List ℕ) (ss ts : List Store) (n : ℕ) → StoresInside (length xs) ss
     → afterStores (xs ++ ys) (take n (ss ++ map (shift (length xs)) ts)) ≡ afterStores xs (take n ss) ++ afterStores ys (take (n - length ss) ts)
 stores-both xs ys ss ts n i =
-    let j : Inside (length xs) (take n ss) = inside-take (length xs) n ss i in
+    let j : StoresInside (length xs) (take n ss) = inside-take (length xs) n ss i in
     let e : length (afterStores xs (take n ss)) ≡ length xs = stores-length xs (take n ss) j in
     rw (take-append n ss, take-map, stores-append, stores-left xs ys (take n ss) j)
     (ap (λ (k : ℕ). afterStores (afterStores xs (take n ss) ++ ys) (map (shift k) (take (n - length ss) ts))) (sym e)

@@ -1,22 +1,20 @@
--- An area under stores and cuts (document 01, "Power cuts"). a is the bytes of an area, or of a copy in it. Assumes
--- nothing.
+-- An area under stores and cuts (R22, P2). a is the bytes of an area, or of a copy in it. Assumes nothing.
 use Prim.Native.Nat.{ℕ}
 use mathlib.Core.List.{List, [], _∷_}
 use lib.ListN.{take}
 use Rattle.fields.specs.Number.{bytes, put}
 use Rattle.record_stores.specs.Stores.{Store}
 
--- "each puts its word into the four bytes at its offset. No store is torn, and every other byte stays."
+-- a store done: its word in the four bytes at its offset, every other byte as it was (R22)
 unfoldable pub afterStore : List ℕ → Store → List ℕ
 afterStore a s = put a (s .0) (bytes 4 (s .1))
 
--- pairs "done in list order"
+-- stores done in list order
 unfoldable pub afterStores : List ℕ → List Store → List ℕ
 afterStores a [] = a
 afterStores a (s ∷ ss) = afterStores (afterStore a s) ss
 
--- "A cut after n of the stores that a call listed, n from 0 to all, leaves the area which that call was given with the
--- first n pairs done in list order". An n past the list's end is all of them
+-- a cut after n of the stores (P2). An n past the list's end is all of them
 unfoldable pub afterCut : List ℕ → List Store → ℕ → List ℕ
 afterCut a ss n = afterStores a (take n ss)
 

@@ -29,7 +29,7 @@ pub record FormatLaws (F : Format) : Type 0 where
 unfoldable pub recordOf : Format → List ℕ → List ℕ
 recordOf F c = take (F .sizeOf c) c
 
--- "A copy is sound exactly if": its record is
+-- a copy is sound exactly if its record is (R5)
 unfoldable pub soundCopy : Format → List ℕ → Bool
 soundCopy F c = F .sound (recordOf F c)
 
@@ -58,8 +58,8 @@ pub record Writable (F : Format) (c r : List ℕ) : Type 0 where
   pub is-sound : F .sound r ≡ true
 
 -- every store lies in the first n bytes
-abbrev pub Inside : ℕ → List Store → Type 0
-Inside n ss = Each (λ s. s .0 + 4 ≤ n) ss
+abbrev pub StoresInside : ℕ → List Store → Type 0
+StoresInside n ss = Each (λ s. s .0 + 4 ≤ n) ss
 
 -- the record in front of what stood behind its range
 abbrev pub over : List ℕ → List ℕ → List ℕ
@@ -68,6 +68,6 @@ over r c = r ++ drop (length r) c
 -- What is asked of a writer. Its stores stay inside the record's range in the copy; cut anywhere between the first
 -- store and the last, they leave the version's low byte 0; and all of them leave the record in front of the old tail
 pub record WriterLaws (F : Format) (W : Writer) : Type 0 where
-  pub inside : (c r : List ℕ) → Writable F c r → Inside (length r) (W c r)
+  pub inside : (c r : List ℕ) → Writable F c r → StoresInside (length r) (W c r)
   pub between : (c r : List ℕ) (n : ℕ) → Writable F c r → 0 < n → n < length (W c r) → getD (afterCut c (W c r) n) (F .versionAt) 0 ≡ 0
   pub ends : (c r : List ℕ) → Writable F c r → afterStores c (W c r) ≡ over r c

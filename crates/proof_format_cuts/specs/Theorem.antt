@@ -14,7 +14,7 @@ use Rattle.record_stores.specs.Stores.{Store, shift}
 use Rattle.proof_format_cuts.specs.Area.{afterCut}
 use Rattle.proof_format_cuts.specs.Format.{Format, FormatLaws, Writer, WriterLaws, Area, recordOf, soundCopy, copy0, copy1, over}
 
--- "The record read is copy 0 if sound, else copy 1 if sound."
+-- the record read (R20)
 unfoldable pub readOf : Format → List ℕ → List ℕ → Option (List ℕ)
 readOf F x y = cond (soundCopy F x) (some (recordOf F x)) (cond (soundCopy F y) (some (recordOf F y)) none)
 

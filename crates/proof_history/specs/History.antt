@@ -1,8 +1,7 @@
 -- A history of start-ups, repairs and calls: what each leaves of the area and of the session, done whole or cut by a
--- loss of power (document 01, "Power cuts"; Ask 13 of the change requests, which asks for the whole working life as one
--- such run). Each event asks its entry's own definition with what the event before it left, and nobody else writes the
--- area meanwhile. An act more is a line more of `Act` and of `effectOf`. w is a world, e an event, s the numbers of the
--- store slice lent, ss a list of stores. Assumes nothing.
+-- loss of power (P2, P7, P8, P14). Each event asks its entry's own definition with what the event before it left, and
+-- nobody else writes the area meanwhile. An act more is a line more of `Act` and of `effectOf`. w is a world, e an
+-- event, s the numbers of the store slice lent, ss a list of stores. Assumes nothing.
 use Prim.Native.Nat.{ℕ, zero, suc}
 use mathlib.Core.Option.{Option, none, some}
 use mathlib.Core.List.{List, [], _∷_}
@@ -45,8 +44,7 @@ unfoldable pub pairs : ℕ → List ℕ → List Store
 pairs zero s = []
 pairs (suc n) s = (getD s 0 0, getD s 1 0) ∷ pairs n (drop 2 s)
 
--- "a list of stores, each a pair (offset, word), in a lent slice": of a call, as many pairs as the answer counts, from
--- the slice at exit
+-- the stores of a call: as many pairs as the answer counts, from the slice at exit (R23)
 unfoldable pub listOf : Result → List Store
 listOf x = pairs (x .0 .2) (x .1)
 
@@ -80,12 +78,12 @@ effectOf repairs w s = repairEffect (w .session) (repaired (w .area) s .0) (repa
 effectOf (calls k) w s = callEffectOf k (w .session) (w .area) s
 
 -- ---- one event
--- "A cut after n of the stores .., n from 0 to all"
+-- all stores done, or the first n (P2)
 unfoldable pub areaAfter : Fate → (a : List ℕ) → List Store → List ℕ
 areaAfter whole a ss = afterStores a ss
 areaAfter (cut n) a ss = afterCut a ss n
 
--- what is in no area is lost with the power
+-- what is in no area is lost with the power (P14)
 unfoldable pub sessionAfter : Fate → Option Session → Option Session
 sessionAfter whole q = q
 sessionAfter (cut n) q = none

@@ -27,8 +27,8 @@ event act s fate = record { act = act; slice = s; fate = fate }
 
 --     read-back, call-lists     a list laid at a slice's front is read back whole
 --     cut-next .. no-list       how far the stores went: a cut after n, none, all, and where there is none to be done
---     started .. start-up-area  "A start-up .. leaves the area as it was", and gives the session where it is accepted
---                               and power holds
+--     started .. start-up-area  a start-up leaves the area as it was, and gives the session where it is accepted and
+--                               power holds
 --     repair-refused ..         a refused repair leaves the area as it was, an accepted one does its stores; the
 --                               session stays
 --     call-refused ..           a refused call leaves all as it was; so does one that no session is at hand for

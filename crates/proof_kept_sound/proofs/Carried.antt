@@ -20,7 +20,7 @@ use Rattle.record_layout.specs.Rules.{versionRule, bankCountRule, imageCountRul
 use Rattle.record_layout.specs.Sized.{Sized}
 use Rattle.record_layout.proofs.Below.{below-each, below-same}
 use Rattle.record_layout.proofs.Sound.{All, all-of, sound-named}
-use Rattle.proof_kept_sound.specs.Fields.{Fields, fieldsOf, allIn, Outside, Elsewhere}
+use Rattle.proof_kept_sound.specs.Fields.{Fields, fieldsOf, allIn, OutsideField, Elsewhere}
 use Rattle.proof_kept_sound.proofs.Places.{guid-elsewhere, reserved-elsewhere, header-elsewhere}
 use Rattle.proof_kept_sound.proofs.Says.{Says}
 use Rattle.proof_kept_sound.proofs.Good.{bankFits, Good, below-all}
@@ -64,7 +64,7 @@ module _ (r y : List ℕ) (f : Fields) (w : Says r (bankCount r) (imageCount r) 
   le-stays : (n j : ℕ) → ((k : ℕ) → k < n → Elsewhere (bankCount r) (imageCount r) (j + k)) → le n y j ≡ le n r j
   le-stays n j h = le-same n y r j j (λ k lt. w .stays (j + k) (h k lt))
 
-  header-stays : (k : ℕ) → Outside 0 4 k → Outside 8 8 k → Outside 24 4 k → k < 40 → getD y k 0 ≡ getD r k 0
+  header-stays : (k : ℕ) → OutsideField 0 4 k → OutsideField 8 8 k → OutsideField 24 4 k → k < 40 → getD y k 0 ≡ getD r k 0
   header-stays k c n t h = w .stays k (header-elsewhere (bankCount r) (imageCount r) k c n t h)
 
   field-stays : (n j : ℕ) → Apart 0 4 j n → Apart 8 8 j n → Apart 24 4 j n → j + n ≤ 40 → le n y j ≡ le n r j

@@ -4,16 +4,16 @@ use Prim.Native.Nat.{ℕ, zero, suc, _*_, _/_, _%_, _^_, _<_}
 use native.Mathlib.Omega.{arith}
 use lib.Bits.{bitXor, xor-lt}
 use Rattle.fields.specs.Number.{Bytes}
-use Rattle.record_crc.specs.Crc.{step, steps, withByte, withBytes, allOnes, crc32Of}
+use Rattle.record_crc.specs.Crc.{divisionStep, steps, withByte, withBytes, allOnes, crc32Of}
 
-step-low : (r : ℕ) → r < 2 ^ 32 → step r < 2 ^ 32
-unfolding step
+step-low : (r : ℕ) → r < 2 ^ 32 → divisionStep r < 2 ^ 32
+unfolding divisionStep
 step-low r h = xor-lt 32 (r / 2) (r % 2 * 0xEDB88320) (omega arith) (omega arith)
 
 steps-low : (n r : ℕ) → r < 2 ^ 32 → steps n r < 2 ^ 32
 unfolding steps
 steps-low zero r h = h
-steps-low (suc n) r h = steps-low n (step r) (step-low r h)
+steps-low (suc n) r h = steps-low n (divisionStep r) (step-low r h)
 
 byte-low : (r b : ℕ) → r < 2 ^ 32 → b < 256 → withByte r b < 2 ^ 32
 unfolding withByte

@@ -9,7 +9,7 @@ use Rattle.fields.proofs.Tests.{le-or-lt}
 use Rattle.fields.proofs.Beside.{Apart}
 use Rattle.record_layout.specs.Layout.{entrySize, entryAt, acceptedAt, reservedAt}
 use Rattle.record_layout.proofs.Sizes.{at-most}
-use Rattle.proof_kept_sound.specs.Fields.{Outside, Elsewhere}
+use Rattle.proof_kept_sound.specs.Fields.{OutsideField, Elsewhere}
 
 -- two fields in entries of E bytes each: in different entries they are apart, in one entry as their offsets are
 entries-apart : (E i j o m p n : ℕ) → o + m ≤ E → p + n ≤ E → (i ≡ j → Apart o m p n) → Apart (40 + i * E + o) m (40 + j * E + p) n
@@ -65,7 +65,7 @@ reserved-elsewhere banks images i b k hb h =
     ⊎-elim (λ q. inl (omega arith)) (λ q. inr (omega arith)) (le-or-lt c b)))
 
 -- a byte of the header
-pub header-elsewhere : (banks images k : ℕ) → Outside 0 4 k → Outside 8 8 k → Outside 24 4 k → k < 40 → Elsewhere banks images k
+pub header-elsewhere : (banks images k : ℕ) → OutsideField 0 4 k → OutsideField 8 8 k → OutsideField 24 4 k → k < 40 → Elsewhere banks images k
 header-elsewhere banks images k crc named states h =
     record {
       off-crc = crc;

@@ -20,7 +20,7 @@ use Rattle.record_layout.specs.Rules.{crcRule}
 use Rattle.record_layout.specs.Sized.{Sized}
 use Rattle.record_layout.proofs.Sizes.{bank-in, header-in}
 use Rattle.record_alterations.specs.Fields.{setActive, setPrevious, setState, setAccepted, withCrc}
-use Rattle.proof_kept_sound.specs.Fields.{Fields, withActive, withPrevious, withState, withFlag, Outside, Elsewhere}
+use Rattle.proof_kept_sound.specs.Fields.{Fields, withActive, withPrevious, withState, withFlag, OutsideField, Elsewhere}
 use Rattle.proof_kept_sound.proofs.Crc.{crc-low}
 use Rattle.proof_kept_sound.proofs.Places.{flags-apart, header-elsewhere}
 
@@ -40,7 +40,7 @@ one-small v h zero = h
 one-small v h (suc i) = omega arith
 
 -- a byte at b and one at c
-bytes-apart : (b c : ℕ) → (c ≡ b → ⊥) → Outside (24 + b) 1 (24 + c)
+bytes-apart : (b c : ℕ) → (c ≡ b → ⊥) → OutsideField (24 + b) 1 (24 + c)
 bytes-apart b c differ =
     ⊎-elim (λ h. ⊎-elim (λ k. absurd (differ (omega arith))) (λ k. inr (omega arith)) (le-or-lt c b)) (λ h. inl (omega arith)) (le-or-lt b c)
 
@@ -56,11 +56,11 @@ module _ (r : List ℕ) (banks images : ℕ) (s : Sized r banks images) (x : Lis
     word-beside : (n j : ℕ) → Apart p 4 j n → le n (put x p (bytes 4 v)) j ≡ le n x j
     word-beside n j a = le-beside x p 4 (bytes 4 v) (length-bytes 4 v) (omega (arith, header)) n j a
 
-    byte-stays : (k : ℕ) → Outside p 4 k → getD (put x p (bytes 4 v)) k 0 ≡ getD x k 0
+    byte-stays : (k : ℕ) → OutsideField p 4 k → getD (put x p (bytes 4 v)) k 0 ≡ getD x k 0
     byte-stays k o = byte-beside x p 4 (bytes 4 v) (length-bytes 4 v) (omega (arith, header)) k o
 
     says-word : (a q : ℕ) → active (put x p (bytes 4 v)) ≡ a → previous (put x p (bytes 4 v)) ≡ q
-        → ((k : ℕ) → Elsewhere banks images k → Outside p 4 k)
+        → ((k : ℕ) → Elsewhere banks images k → OutsideField p 4 k)
         → Says r banks images (put x p (bytes 4 v)) (withActive a (withPrevious q f))
     says-word a q is was off =
         record {
@@ -152,7 +152,7 @@ module _ (r : List ℕ) (banks images : ℕ) (s : Sized r banks images) (x : Lis
       beside : (n j : ℕ) → Apart (acceptedAt banks i b) 4 j n → le n (put x (acceptedAt banks i b) (bytes 4 v)) j ≡ le n x j
       beside n j a = le-beside x (acceptedAt banks i b) 4 (bytes 4 v) (length-bytes 4 v) fits n j a
 
-      stays-byte : (k : ℕ) → Outside (acceptedAt banks i b) 4 k → getD (put x (acceptedAt banks i b) (bytes 4 v)) k 0 ≡ getD x k 0
+      stays-byte : (k : ℕ) → OutsideField (acceptedAt banks i b) 4 k → getD (put x (acceptedAt banks i b) (bytes 4 v)) k 0 ≡ getD x k 0
       stays-byte k o = byte-beside x (acceptedAt banks i b) 4 (bytes 4 v) (length-bytes 4 v) fits k o
 
       go : (j c : ℕ) → j < images → c < banks → (t : Bool) → (eqb c b && eqb j i) ≡ t

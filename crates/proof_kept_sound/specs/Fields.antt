@@ -1,6 +1,5 @@
--- A record by its fields: those that the calls alter, and what each call makes of them (document 01, "Session and
--- calls"). Every other byte but the CRC's stays. r is the bytes of the old record, new those of the new one. Assumes
--- nothing.
+-- A record by its fields: those that the calls alter, and what each call makes of them (S6 to S17). Every other byte
+-- but the CRC's stays. r is the bytes of the old record, new those of the new one. Assumes nothing.
 use Prim.Native.Nat.{ℕ, _+_, _≤_, _<_}
 use mathlib.Core.Path.{_≡_}
 use mathlib.Core.Logic.{_⊎_}
@@ -56,7 +55,7 @@ withFlag i b flag f =
 abbrev pub allIn : (images b : ℕ) → Fields → Bool
 allIn images b f = below images (λ i. eqb (f .flags i b) 1)
 
--- Begin, with the update bank u: "It becomes 255 with all images unaccepted"
+-- Begin, with the update bank u: 255, all images unaccepted (S6)
 abbrev pub begun : (u : ℕ) → Fields → Fields
 begun u f =
     record {
@@ -66,39 +65,39 @@ begun u f =
       flags = λ i b. cond (eqb b u) 0 (f .flags i b);
     }
 
--- Commit of image i: "0 marks it accepted, above 0 unaccepted"
+-- Commit of image i: accepted by request 0 (S8)
 abbrev pub committed : (i request u : ℕ) → Fields → Fields
 committed i request u f = withFlag i u (cond (eqb request 0) 1 0) f
 
--- End: "The bank becomes 252 if all are accepted, else 254. Previous takes active, active takes the update bank"
+-- End: 252 if all are accepted, else 254; previous takes active, active the update bank (S10)
 abbrev pub ended : (images u : ℕ) → Fields → Fields
 ended images u f =
     withActive u (withPrevious (f .active-bank) (withState u (cond (allIn images u f) acceptedBank valid) f))
 
--- Accept of image i: "the image becomes accepted in the active bank"
+-- Accept of image i, in the active bank (S13)
 abbrev pub markedIn : ℕ → Fields → Fields
 markedIn i f = withFlag i (f .active-bank) 1 f
 
--- "when all are, the bank is 252"
+-- and when all are, the bank is 252
 abbrev pub acceptedOf : (images i : ℕ) → Fields → Fields
 acceptedOf images i f =
     cond (allIn images (f .active-bank) (markedIn i f)) (withState (f .active-bank) acceptedBank (markedIn i f)) (markedIn i f)
 
--- Select previous: "Active and previous are exchanged."
+-- Select previous (S16)
 abbrev pub exchanged : Fields → Fields
 exchanged f = withActive (f .previous-bank) (withPrevious (f .active-bank) f)
 
 -- byte k lies outside the n bytes from p on
-abbrev pub Outside : (p n k : ℕ) → Type 0
-Outside p n k = (k < p) ⊎ (p + n ≤ k)
+abbrev pub OutsideField : (p n k : ℕ) → Type 0
+OutsideField p n k = (k < p) ⊎ (p + n ≤ k)
 
 -- byte k belongs to none of those fields, nor to the CRC
 pub record Elsewhere (banks images k : ℕ) : Type 0 where
-  pub off-crc : Outside crcAt 4 k
-  pub off-active : Outside activeAt 4 k
-  pub off-previous : Outside previousAt 4 k
-  pub off-states : Outside (stateAt 0) bankLimit k
-  pub off-flags : (i b : ℕ) → i < images → b < banks → Outside (acceptedAt banks i b) 4 k
+  pub off-crc : OutsideField crcAt 4 k
+  pub off-active : OutsideField activeAt 4 k
+  pub off-previous : OutsideField previousAt 4 k
+  pub off-states : OutsideField (stateAt 0) bankLimit k
+  pub off-flags : (i b : ℕ) → i < images → b < banks → OutsideField (acceptedAt banks i b) 4 k
 
 -- the new record read: it has those fields; each byte elsewhere is the old record's, so it has as many banks and
 -- images, of the same types

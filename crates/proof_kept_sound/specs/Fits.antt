@@ -1,6 +1,6 @@
--- The session that a call answers fits the record that it makes (document 01, "Session and calls"), as far as the
--- record tells: what Staging carries passes refusal 24, and start-up in the active bank finds that bank and its state.
--- r is the bytes of the old record, new those of the new one. Assumes nothing.
+-- The session that a call answers fits the record that it makes (S20), as far as the record tells: what Staging carries
+-- passes refusal 24, and start-up in the active bank finds that bank and its state. r is the bytes of the old record,
+-- new those of the new one. Assumes nothing.
 use Prim.Native.Nat.{ℕ}
 use mathlib.Core.Path.{_≡_}
 use mathlib.Core.Bool.{true, cond}
@@ -26,8 +26,8 @@ StandsAs r new = Stands new (active r) (previous r) (state r (active r))
 
 -- Begin: Staging of the update bank with the empty set. Commit: Staging of the same bank with the set that the image
 -- has joined; so Cancel goes back to the active bank as Begin found it. End: Restart, into a bank that is Regular if
--- all its images are accepted, else Trial. Accept: "when all are, .. the session Regular", else Trial. Select previous:
--- Restart, into the previous bank as it is
+-- all its images are accepted, else Trial. Accept: Regular when all are, else Trial. Select previous: Restart, into the
+-- previous bank as it is
 abbrev pub Fits : Change → (r new : List ℕ) → Type 0
 Fits Nothing r new = StandsAs r new
 Fits Begin r new = StandsAs r new × (stagedFits (updateBankOf r) 0 new ≡ true)

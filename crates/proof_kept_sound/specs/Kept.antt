@@ -1,6 +1,5 @@
--- Every accepted call keeps the record sound (document 01, "Session and calls"). Document 01 does not say so; demand 3
--- needs it, since only a sound record is read. r is the bytes of the old record, i an image of it, request the one that
--- Commit is given. Assumes nothing.
+-- Every accepted call keeps the record sound (S19). No rule asks it; P4 needs it, since only a sound record is read. r
+-- is the bytes of the old record, i an image of it, request the one that Commit is given. Assumes nothing.
 use Prim.Native.Nat.{ℕ, _<_}
 use mathlib.Core.Path.{_≡_}
 use mathlib.Core.Bool.{true}
@@ -37,8 +36,8 @@ Asks Exchange r = state r (previous r) ≡ acceptedBank
 abbrev pub CallsKeepSound : Type 0
 CallsKeepSound = (r : List ℕ) → Bytes r → sound r ≡ true → (x : Change) → Asks x r → Kept r (changedBy x r)
 
--- What Commit asks of the bank being staged holds after Begin and after every Commit. And "Accepting an accepted image
--- changes nothing in the record"
+-- What Commit asks of the bank being staged holds after Begin and after every Commit. And accepting an accepted image
+-- changes nothing (S14)
 pub record Follows (r : List ℕ) : Type 0 where
   pub begin-stages : Staged (changedBy Begin r)
   pub commit-stages : (i request : ℕ) → i < imageCount r → Staged r → Staged (changedBy (Commit i request) r)

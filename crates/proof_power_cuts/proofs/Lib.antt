@@ -1,4 +1,3 @@
 -- The proof. Assumes nothing.
 pub mod Lists
 pub mod PowerCuts
-pub mod Sample

@@ -1,4 +1,4 @@
--- Demand 3 of start-up, repair and the six calls. Assumes nothing.
+-- The statement on power cuts (specs/PowerCuts.antt), of start-up, repair and the six calls. Assumes nothing.
 use mathlib.Core.Path.{_≡_, sym, ap, subst, _∙_}
 use mathlib.Core.Logic.{inl, inr, ⊎-elim}
 use mathlib.Core.Bool.{true}

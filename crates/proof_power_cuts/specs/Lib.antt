@@ -1,2 +1,2 @@
--- Demand 3 of the calls and entries themselves. Assumes nothing.
+-- What power cuts leave, of the calls and entries themselves. Assumes nothing.
 pub mod PowerCuts

@@ -1,8 +1,8 @@
--- Demand 3 as one statement over the change, its cut and the whole list (document 01, "Power cuts", sentence by
--- sentence). It speaks of what the clauses of the six calls, of repair and of start-up say that these answer, of the
--- numbers that stand in the store slice at exit, and of one history (crates/proof_history). w is a world, a the bytes of an
--- area, s the numbers of a store slice, q a session, r the bytes of a record, ss a list of stores, n how many of them
--- are done before the cut, es a list of start-ups and repairs. Assumes nothing.
+-- What power cuts leave, as one statement over the change, its cut and the whole list (P1 to P13). It speaks of what
+-- the clauses of the six calls, of repair and of start-up say that these answer, of the numbers that stand in the store
+-- slice at exit, and of one history (crates/proof_history). w is a world, a the bytes of an area, s the numbers of a
+-- store slice, q a session, r the bytes of a record, ss a list of stores, n how many of them are done before the cut,
+-- es a list of start-ups and repairs. Assumes nothing.
 use Prim.Native.Nat.{ℕ, _*_, _/_, _≤_}
 use mathlib.Core.Path.{_≡_}
 use mathlib.Core.Logic.{_≢_, _⊎_}
@@ -25,36 +25,33 @@ use Rattle.update_repair.specs.Repair.{repaired}
 use Rattle.proof_format_cuts.specs.Area.{afterStores, afterCut, Each}
 use Rattle.proof_format_cuts.specs.Format.{over}
 use Rattle.proof_record_cuts.specs.Cuts.{BothHold}
-use Rattle.proof_record_cuts.specs.Offsets.{Placed, InEither, InWord, otherAt}
+use Rattle.proof_record_cuts.specs.Offsets.{StoreWithin, InEither, InWord, otherAt}
 use Rattle.proof_kept_sound.specs.Fields.{CallsMake}
 use Rattle.proof_call_results.specs.CallResults.{Passed}
 use Rattle.proof_history.specs.HistoryLaws.{event}
 use Rattle.proof_history.specs.History.{World, Act, startsUp, repairs, calls, Fate, whole, cut, Event, pairs, listOf, step, run}
 
--- ---- "A change is one accepted Begin, Commit, End, Cancel, Accept or Select previous."
+-- ---- a change (P1)
 -- that call of the session q, on the area a, with the slice s lent, cut after n of its stores: the world that it leaves
 abbrev pub cutCall : (k : Call) (q : Session) (a s : List ℕ) (n : ℕ) → World
 cutCall k q a s n = step (record { area = a; session = some q }) (record { act = calls k; slice = s; fate = cut n })
 
--- the list is whole: the slice s that was lent holds all the pairs that the answer counts, and "Numbers past the list
--- stay." out is the slice at exit (`counted` is so by `pairs` already; what shuts an invented count out is `inside`,
+-- the list is whole: the slice s that was lent holds all the pairs that the answer counts, and numbers past them stay
+-- (R23). out is the slice at exit (`counted` is so by `pairs` already; what excludes an invented count is `inside`,
 -- `rest` and `area` of `Survives` below)
 pub record Listed (s : List ℕ) (count : ℕ) (out : List ℕ) : Type 0 where
   pub counted : length (pairs count out) ≡ count
   pub inside : 2 * length (pairs count out) ≤ length s
   pub rest : out ≡ withList s (pairs count out)
 
--- ---- "What start-up reads is the record read, as defined above, .. for any booted bank it answers the session, or
--- refusal 28, that this page gives for that record."
+-- ---- what start-up reads: the record read, by which it answers for any booted bank (P3)
 pub record Reads (a r : List ℕ) : Type 0 where
   pub one-sound : sourceOf a ≢ Neither
   pub is : recordRead a ≡ r
   pub answers : (booted : ℕ) → startUp a booted ≡ startedFrom r booted
 
--- ---- "A list in demand 3 holds start-ups with any booted bank and repairs with any store slice, in any order, those
--- refused by 28 or 23 too." Each is whole or cut. "Each is given the area that the one before it left, and nobody else
--- writes the area meanwhile. A start-up or a refused repair leaves the area as it was; an accepted repair leaves it cut
--- after any n of its stores.": `run` of crates/proof_history
+-- ---- a list of start-ups and repairs, refused ones too, each whole or cut (P7); what they leave is `run` of
+-- crates/proof_history (P8)
 abbrev pub NoCall : Act → Type 0
 NoCall (startsUp booted) = Unit {0}
 NoCall repairs = Unit {0}
@@ -64,8 +61,7 @@ abbrev pub Quiet : List Event → Type 0
 Quiet [] = Unit {0}
 Quiet (e ∷ es) = NoCall (e .act) × Quiet es
 
--- "It has finished when n is all of them, so at once where it lists none.": an accepted repair, by its answer and its
--- fate
+-- an accepted repair has finished, by its answer and its fate (P9)
 abbrev pub AllDone : Reply ℕ → Fate → Type 0
 AllDone (gives count) whole = Unit {0}
 AllDone (gives count) (cut n) = count ≤ n
@@ -96,12 +92,12 @@ pub record QuietLists : Type 0 where
       → Finished w (event repairs s whole ∷ es)
   pub later : (w : World) (e : Event) (es : List Event) → Finished (step w e) es → Finished w (e ∷ es)
 
--- ---- "For every list of start-ups and repairs from there": what the list leaves of the world w
+-- ---- what a list leaves of the world w
 --     long, bytes   an area still, so that more may follow
---     reads         "start-up after the list reads the same record as before it"
---     answers       and answers the same, session or refusal, for any booted bank
---     both-hold     "Once a repair in the list has finished, both copies are sound and equal from then on": the list is
---                   any list, so this holds after each event of a longer one
+--     reads         the same record is read as before it (P10)
+--     answers       and start-up answers the same, session or refusal, for any booted bank
+--     both-hold     once a repair in it has finished, both copies are sound and equal (P11): the list is any list, so
+--                   this holds after each event of a longer one
 pub record Lasts (w : World) (es : List Event) : Type 0 where
   pub long : length (run w es .area) ≡ areaSize
   pub bytes : Bytes (run w es .area)
@@ -110,11 +106,11 @@ pub record Lasts (w : World) (es : List Event) : Type 0 where
   pub both-hold : Finished w es → BothHold (run w es .area) (recordRead (w .area))
 
 -- ---- the rules on a list
--- "offsets are multiples of 4 inside one of the two record ranges, old or new"
+-- where its stores lie (R25)
 abbrev pub InRange : (old new : List ℕ) → Store → Type 0
 InRange old new store = InEither (length old) store ⊎ InEither (length new) store
 
--- "That slice must hold 4,200 numbers (2,100 pairs).": read as a limit on the list too, however long the slice is
+-- how many there are at most, however long the slice is (R24)
 abbrev pub pairLimit : ℕ
 pairLimit = storeNumbers / 2
 
@@ -126,18 +122,16 @@ pub record Ruled (P : Store → Type 0) (ss : List Store) : Type 0 where
 
 -- ---- a change from old to new with the stores ss, cut after n of them: w is the world that it leaves, and es any list
 -- from there on
---     left                    its area is "the area which that call was given with the first n pairs done in list
---                             order"; the session is lost
+--     left                    its area is the one that the call was given with the first n stores done (P2); the
+--                             session is lost (P14)
 --     long, holds             the call was given an area whose two copies are sound and hold the old record
---     new-sound, new-bytes    the new record is one that can be read: every accepted call keeps the record sound
---     either                  "Start-up then reads exactly the old record or exactly the new"
---     first                   "the old after no store"
---     last                    "the new after all"
---     after-all, area         "After all stores both copies hold the new record and every other byte of the area is as
---                             before."
---     later                   "once the new is read, every later cut of that change reads it too"
---     lasts                   "Go on from what that cut left"
---     rules                   those on the list
+--     new-sound, new-bytes    the new record is one that can be read: every accepted call keeps the record sound (S19)
+--     either                  exactly the old record or exactly the new is read (P4)
+--     first, last             the old after no store, the new after all (P5)
+--     after-all, area         both copies hold the new record, every other byte as before (R26)
+--     later                   once the new is read, every later cut reads it too (P6)
+--     lasts                   any list from what that cut left (P10, P11)
+--     rules                   those on the list (R22, R24, R25)
 pub record Survives (a old new : List ℕ) (ss : List Store) (n : ℕ) (w : World) (es : List Event) : Type 0 where
   pub left : w ≡ record { area = afterCut a ss n; session = none }
   pub long : length a ≡ areaSize
@@ -153,23 +147,20 @@ pub record Survives (a old new : List ℕ) (ss : List Store) (n : ℕ) (w : Worl
   pub lasts : Quiet es → Lasts w es
   pub rules : Ruled (InRange old new) ss
 
--- ---- a repair of a with the stores ss, all of them done: "none if the copies are sound and equal, else the record
--- read goes into the other copy"; "Repair gives such a list too"
+-- ---- a repair of a with the stores ss, all of them done (R27)
 pub record Repairs (a : List ℕ) (ss : List Store) : Type 0 where
   pub is-area : length a ≡ areaSize
   pub has-sound : sourceOf a ≢ Neither
   pub none : soundAndEqual a ≡ true → ss ≡ []
   pub after-all : BothHold (afterStores a ss) (recordRead a)
   pub area : afterStores a ss ≡ over (recordRead a) (copy0 a) ++ over (recordRead a) (copy1 a)
-  pub rules : Ruled (Placed (otherAt (sourceOf a)) (length (recordRead a))) ss
+  pub rules : Ruled (StoreWithin (otherAt (sourceOf a)) (length (recordRead a))) ss
 
--- ---- Demand 3: "Start from two sound, equal copies of the record, take any accepted change and cut it after any
--- number of its stores"; "Go on from what that cut left, or from any other area with a sound copy." That a is bytes is
--- all that a change asks of it: that it is an area with two sound and equal copies is what the calls are refused for
--- otherwise. No clause has a premise about the checksum. That calls and repairs are accepted at all is for their own
--- clauses to say; proofs/Sample.antt has one of each
---     makes            the new record has the old one's fields but for what the call's line alters, and the old one's
---                      bytes elsewhere but for the CRC's, which its soundness fixes
+-- ---- the whole statement. That a is bytes is all that a change asks of it: that it is an area with two sound and
+-- equal copies is what the calls are refused for otherwise. No clause has a premise about the checksum (P12). That
+-- calls and repairs are accepted at all is for their own clauses to say; proofs/Sample.antt has one of each
+--     makes            the new record has the old one's fields but for what the call's rule alters, and the old one's
+--                      bytes elsewhere but for the CRC's, which its soundness fixes (S17)
 --     change           one change, its cut, and the whole list
 --     change-listed    the stores of a change are those that its answer counts, in the slice that was lent
 --     anywhere         any other area with a sound copy, with any session at hand or none

@@ -27,15 +27,25 @@ use Rattle.proof_record_cuts.specs.Cuts.{IsRead, BothHold, changed, mend
 use Rattle.proof_record_cuts.proofs.Version2.{cuts}
 
 -- ---- the record read
+-- whether an option holds anything, and whether a source is a copy
+abbrev holds : Option (List ℕ) → Bool
+holds none = false
+holds (some r) = true
+
+abbrev aCopy : Source → Bool
+aCopy Neither = false
+aCopy Copy0 = true
+aCopy Copy1 = true
+
 read-is : (a r : List ℕ) → general.recordRead version2 a ≡ some r → IsRead a r
 unfolding general.recordRead general.readOf format.soundCopy format.recordOf version2 soundCopy recordOf sourceOf readFrom
 read-is a r e = go (soundCopy (copy0 a)) (soundCopy (copy1 a)) refl refl e
   where
     go : (s t : Bool) → soundCopy (copy0 a) ≡ s → soundCopy (copy1 a) ≡ t
         → cond s (some (recordOf (copy0 a))) (cond t (some (recordOf (copy1 a))) none) ≡ some r → IsRead a r
-    go true t p q e = record { one-sound = rw p (λ z. let z : _≡_ {A = ℕ} 0 1 = cc in omega arith); is = rw p cc }
-    go false true p q e = record { one-sound = rw (p, q) (λ z. let z : _≡_ {A = ℕ} 0 1 = cc in omega arith); is = rw (p, q) cc }
-    go false false p q e = absurd (let z : _≡_ {A = ℕ} 0 1 = cc in omega arith)
+    go true t p q e = record { one-sound = rw p (λ z. no-true (sym (ap aCopy z))); is = rw p cc }
+    go false true p q e = record { one-sound = rw (p, q) (λ z. no-true (sym (ap aCopy z))); is = rw (p, q) cc }
+    go false false p q e = absurd (no-true (ap holds e))
 
 read-some : (a : List ℕ) → sourceOf a ≢ Neither → general.recordRead version2 a ≡ some (recordRead a)
 unfolding general.recordRead general.readOf format.soundCopy format.recordOf version2 soundCopy recordOf sourceOf readFrom

@@ -4,4 +4,3 @@ pub mod Plan
 pub mod Version2
 pub mod Cuts
 pub mod Offsets
-pub mod Sample

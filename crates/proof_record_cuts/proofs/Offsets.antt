@@ -21,23 +21,23 @@ use Rattle.record_store_lists.specs.ChangeStores.{copyStores, changeStores, oth
 use Rattle.proof_format_cuts.specs.Area.{Each}
 use Rattle.proof_format_cuts.proofs.Runs.{each-append, each-map, each-weaken}
 use Rattle.proof_record_cuts.specs.Version2.{recordLength}
-use Rattle.proof_record_cuts.specs.Offsets.{Placed, InEither, InWord, otherAt, StoreRules}
+use Rattle.proof_record_cuts.specs.Offsets.{StoreWithin, InEither, InWord, otherAt, StoreRules}
 use Rattle.proof_record_cuts.proofs.Words.{word-small}
 use Rattle.proof_record_cuts.proofs.Plan.{other-word, length-offsets, differing-mem, length-differing, writes-each}
 use Rattle.proof_record_cuts.proofs.Version2.{two-words, whole-words, record-high}
 
 -- ---- one plan
 placed : (base : ℕ) (c r : List ℕ) → base % 4 ≡ 0 → 8 ≤ length r → 4 * (length r / 4) ≡ length r
-    → Each (Placed base (length r)) (plan base c r)
+    → Each (StoreWithin base (length r)) (plan base c r)
 unfolding plan
 placed base c r even k w =
-    each-map (Placed base (length r)) (shift base) (writes r (differing c r (otherWords r)))
-    (writes-each (λ s. Placed base (length r) (shift base s)) r (differing c r (otherWords r)) (one versionAt 0 refl (omega arith))
+    each-map (StoreWithin base (length r)) (shift base) (writes r (differing c r (otherWords r)))
+    (writes-each (λ s. StoreWithin base (length r) (shift base s)) r (differing c r (otherWords r)) (one versionAt 0 refl (omega arith))
     (one versionAt (store r versionAt .1) refl (omega arith)) (λ o m.
     let p = other-word r o k w (differing-mem c r (otherWords r) o m) in
     one o (store r o .1) (p .aligned) (p .inside)))
   where
-    one : (o w : ℕ) → o % 4 ≡ 0 → o + 4 ≤ length r → Placed base (length r) (shift base (o, w))
+    one : (o w : ℕ) → o % 4 ≡ 0 → o + 4 ≤ length r → StoreWithin base (length r) (shift base (o, w))
     one o w e h = record { aligned = omega arith; low = omega arith; high = omega arith }
 
 -- each store's word: 0, or four bytes of the record
@@ -57,7 +57,7 @@ count base c r k =
 
 -- ---- a sound record's
 module _ (base : ℕ) (c r : List ℕ) (h : sound r ≡ true) where
-  into : base % 4 ≡ 0 → Each (Placed base (length r)) (plan base c r)
+  into : base % 4 ≡ 0 → Each (StoreWithin base (length r)) (plan base c r)
   into even = placed base c r even (two-words r h) (whole-words r h)
 
   few : length (plan base c r) ≤ copyPairs
@@ -82,8 +82,8 @@ change-each P a new p q =
 change-placed : (a new : List ℕ) → sound new ≡ true → Each (InEither (length new)) (changeStores a new)
 change-placed a new h =
     change-each (InEither (length new)) a new
-    (each-weaken (Placed 0 (length new)) (InEither (length new)) (plan 0 (copy0 a) new) (λ s p. inl p) (into 0 (copy0 a) new h refl))
-    (each-weaken (Placed copySize (length new)) (InEither (length new)) (plan copySize (copy1 a) new) (λ s p. inr p)
+    (each-weaken (StoreWithin 0 (length new)) (InEither (length new)) (plan 0 (copy0 a) new) (λ s p. inl p) (into 0 (copy0 a) new h refl))
+    (each-weaken (StoreWithin copySize (length new)) (InEither (length new)) (plan copySize (copy1 a) new) (λ s p. inr p)
     (into copySize (copy1 a) new h refl))
 
 change-count : (a new : List ℕ) → sound new ≡ true → 2 * length (changeStores a new) ≤ storeNumbers
@@ -107,10 +107,10 @@ repair-by Q a none p q = go (soundAndEqual a) (sourceOf a) refl
     go false Copy1 e = q e
     go false Neither e = none
 
-repair-placed : (a : List ℕ) → Each (Placed (otherAt (sourceOf a)) (length (recordRead a))) (repairStores a)
+repair-placed : (a : List ℕ) → Each (StoreWithin (otherAt (sourceOf a)) (length (recordRead a))) (repairStores a)
 unfolding readFrom
 repair-placed a =
-    repair-by (Each (Placed (otherAt (sourceOf a)) (length (recordRead a)))) a tt
+    repair-by (Each (StoreWithin (otherAt (sourceOf a)) (length (recordRead a)))) a tt
     (λ e. rw e (into copySize (copy1 a) (recordOf (copy0 a)) (from-copy0 a e) refl))
     (λ e. rw e (into 0 (copy0 a) (recordOf (copy1 a)) (from-copy1 a e) refl))
 

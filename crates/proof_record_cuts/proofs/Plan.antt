@@ -1,5 +1,5 @@
--- The product's list of stores writes a record over a copy as crates/proof_format_cuts asks: the version's word 0 first, the
--- words that differ, the version's word last. Assumes nothing.
+-- The product's list of stores writes a record over a copy as crates/proof_format_cuts asks: the version's word 0
+-- first, the words that differ, the version's word last. Assumes nothing.
 use mathlib.Core.Path.{_≡_, refl, sym, ap, _∙_}
 use mathlib.Core.Logic.{_⊎_, inl, inr, ⊎-elim}
 use mathlib.Core.Bool.{Bool, true, false, cond}
@@ -17,7 +17,7 @@ use Rattle.fields.proofs.Bytes.{take-bytes, words-same}
 use Rattle.record_layout.specs.Layout.{versionAt}
 use Rattle.record_stores.specs.Stores.{Store, store, offsets, otherWords, differing, writes}
 use Rattle.proof_format_cuts.specs.Area.{afterStore, afterStores, afterCut, Each}
-use Rattle.proof_format_cuts.specs.Format.{Inside, over}
+use Rattle.proof_format_cuts.specs.Format.{StoresInside, over}
 use Rattle.proof_format_cuts.proofs.Runs.{take-map, inside-take, each-append, store-length, stores-length, stores-bytes, stores-append, stores-left}
 use Rattle.proof_record_cuts.proofs.Words.{Apart, store-miss, store-hit, mem-take, each-store, stores-miss, word-small, store-agree, stores-agree}
 
@@ -117,7 +117,7 @@ unfolding writes
 writes-each P r os first last h = (first, each-append P (map (store r) os) (store r versionAt ∷ []) (each-store P r os h) (last, tt))
 
 module _ (l r os : List ℕ) (k : 8 ≤ length r) (f : length r ≤ length l) (words : (o : ℕ) → List·Memᴰ o os → Word r o) where
-  writes-inside : Inside (length r) (writes r os)
+  writes-inside : StoresInside (length r) (writes r os)
   writes-inside = writes-each (λ s. s .0 + 4 ≤ length r) r os (omega arith) (omega arith) (λ o m. words o m .inside)
 
   abbrev begun : List ℕ
@@ -126,7 +126,7 @@ module _ (l r os : List ℕ) (k : 8 ≤ length r) (f : length r ≤ length l) (w
   begun-length : length begun ≡ length l
   begun-length = store-length l (versionAt, 0) (omega arith)
 
-  middle-inside : Inside (length begun) (map (store r) os)
+  middle-inside : StoresInside (length begun) (map (store r) os)
   middle-inside = each-store (λ s. s .0 + 4 ≤ length begun) r os (λ o m. omega (arith, begun-length, words o m .inside))
 
   -- cut after some stores and before the last, there is 0 where the version's low byte belongs
@@ -135,7 +135,7 @@ module _ (l r os : List ℕ) (k : 8 ≤ length r) (f : length r ≤ length l) (w
   writes-between zero lo hi = absurd (omega arith)
   writes-between (suc n) lo hi =
       let h : n ≤ length (map (store r) os) = omega (arith, simp length-append at hi) in
-      let i : Inside (length begun) (map (store r) (take n os)) =
+      let i : StoresInside (length begun) (map (store r) (take n os)) =
       rw (take-map (store r) n os) at (inside-take (length begun) n (map (store r) os) middle-inside) in
       let e : le 4 (afterStores begun (map (store r) (take n os))) versionAt ≡ 0 =
       stores-miss r begun (take n os) versionAt i (λ o m. words o (mem-take n os m) .apart)
@@ -169,7 +169,7 @@ module _ (l r os : List ℕ) (k : 8 ≤ length r) (f : length r ≤ length l) (w
 
 -- ---- what is asked of the stores ss that write r over c
 pub record Plan (c r : List ℕ) (ss : List Store) : Type 0 where
-  pub inside : Inside (length r) ss
+  pub inside : StoresInside (length r) ss
   pub between : (n : ℕ) → 0 < n → n < length ss → getD (afterCut c ss n) versionAt 0 ≡ 0
   pub ends : afterStores c ss ≡ over r c
 
@@ -188,10 +188,10 @@ module _ (c r : List ℕ) (k : 8 ≤ length r) (w : 4 * (length r / 4) ≡ lengt
   range-length : length range ≡ length r
   range-length = length-take-le (length r) c f
 
-  inside : Inside (length r) (writes r os)
+  inside : StoresInside (length r) (writes r os)
   inside = writes-inside c r os k f words
 
-  inside-range : Inside (length range) (writes r os)
+  inside-range : StoresInside (length range) (writes r os)
   inside-range = rw range-length inside
 
   -- each word comes to be the record's

@@ -1,4 +1,5 @@
--- Record version 2 is a format of crates/proof_format_cuts, and the product's list of stores a writer of it. Assumes nothing.
+-- Record version 2 is a format of crates/proof_format_cuts, and the product's list of stores a writer of it. Assumes
+-- nothing.
 use mathlib.Core.Path.{_≡_, sym, _∙_}
 use mathlib.Core.Logic.{_≢_}
 use mathlib.Core.Bool.{true}

@@ -11,7 +11,7 @@ use Rattle.fields.proofs.Put.{read-back}
 use Rattle.fields.proofs.Bytes.{word-apart}
 use Rattle.record_stores.specs.Stores.{Store, store}
 use Rattle.proof_format_cuts.specs.Area.{afterStore, afterStores, Each}
-use Rattle.proof_format_cuts.specs.Format.{Inside}
+use Rattle.proof_format_cuts.specs.Format.{StoresInside}
 use Rattle.proof_format_cuts.proofs.Runs.{store-length}
 
 -- ---- one store
@@ -40,7 +40,7 @@ each-store P r [] h = tt
 each-store P r (o ∷ os) h = (h o (List·Memᴰ·head refl), each-store P r os (λ p m. h p (List·Memᴰ·tail m)))
 
 -- a word apart from all of them stays
-pub stores-miss : (r l os : List ℕ) (o : ℕ) → Inside (length l) (map (store r) os) → ((p : ℕ) → List·Memᴰ p os → Apart o p)
+pub stores-miss : (r l os : List ℕ) (o : ℕ) → StoresInside (length l) (map (store r) os) → ((p : ℕ) → List·Memᴰ p os → Apart o p)
     → le 4 (afterStores l (map (store r) os)) o ≡ le 4 l o
 unfolding afterStores
 stores-miss r l [] o k h = refl
@@ -64,7 +64,7 @@ module _ (r : List ℕ) (b : Bytes r) where
         go (no x) (no y) = let q : o ≡ p = omega arith in rw q (store-hit l p (le 4 r p) h (word-small p))
 
     -- and so does one of the words listed
-    pub stores-agree : (l os : List ℕ) → Inside (length l) (map (store r) os) → ((p : ℕ) → List·Memᴰ p os → p % 4 ≡ 0)
+    pub stores-agree : (l os : List ℕ) → StoresInside (length l) (map (store r) os) → ((p : ℕ) → List·Memᴰ p os → p % 4 ≡ 0)
         → (le 4 l o ≡ le 4 r o) ⊎ List·Memᴰ o os
         → le 4 (afterStores l (map (store r) os)) o ≡ le 4 r o
     unfolding afterStores

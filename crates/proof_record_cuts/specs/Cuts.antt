@@ -1,5 +1,5 @@
--- What survives a cut of a change and of a repair, for any sound new record (document 01, "Power cuts"), in the
--- product's own definitions: the record read of crates/record_copies, the stores of crates/record_store_lists. a is the bytes of an
+-- What survives a cut of a change and of a repair, for any sound new record (P2 to P6), in the product's own
+-- definitions: the record read of crates/record_copies, the stores of crates/record_store_lists. a is the bytes of an
 -- area; old is the record that both copies hold before a change, new the one that it writes; n is how many of the
 -- stores listed are done before the cut. Assumes nothing.
 use Prim.Native.Nat.{ℕ, _≤_}
@@ -37,12 +37,10 @@ abbrev pub mended : List ℕ → ℕ → List ℕ
 mended a n = afterCut a (repairStores a) n
 
 -- A change cut after n of its stores
---     either             "Start-up then reads exactly the old record or exactly the new"
---     first              "the old after no store"
---     last               "the new after all"
---     after-all, area    "After all stores both copies hold the new record and every other byte of the area is as
---                        before."
---     later              "once the new is read, every later cut of that change reads it too"
+--     either             exactly the old record or exactly the new is read (P4)
+--     first, last        the old after no store, the new after all (P5)
+--     after-all, area    both copies hold the new record, every other byte as before (R26)
+--     later              once the new is read, every later cut reads it too (P6)
 --     long, bytes        an area still, so that more may follow
 pub record ChangeCut (a old new : List ℕ) (n : ℕ) : Type 0 where
   pub either : IsRead (changed a new n) old ⊎ IsRead (changed a new n) new
@@ -66,9 +64,9 @@ pub record RepairCut (a : List ℕ) (n : ℕ) : Type 0 where
 -- The theorem at record version 2, one step at a time
 --     change         from two sound and equal copies to any sound new record
 --     repair         from any area with a sound copy
---     again          the stores of a repair are those of a change to the record read: the copy that it is read from holds
---                    it, and so gets none
---     none           "none if the copies are sound and equal"
+--     again          the stores of a repair are those of a change to the record read: the copy that it is read from
+--                    holds it, and so gets none
+--     none           no store where the copies are sound and equal (R27)
 --     held, equal    two copies are sound and equal where both hold one record, and only there
 pub record RecordCuts : Type 0 where
   pub change : (a new : List ℕ) (n : ℕ) → length a ≡ areaSize → Bytes a → soundAndEqual a ≡ true → Bytes new → sound new ≡ true

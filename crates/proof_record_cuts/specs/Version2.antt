@@ -1,5 +1,5 @@
--- Record version 2 as a format of crates/proof_format_cuts, and the product's own list of stores as a writer of its copies. c
--- is the bytes of a copy, r those of a record. Assumes nothing.
+-- Record version 2 as a format of crates/proof_format_cuts, and the product's own list of stores as a writer of its
+-- copies. c is the bytes of a copy, r those of a record. Assumes nothing.
 use Prim.Native.Nat.{ℕ}
 use mathlib.Core.Bool.{cond}
 use mathlib.Core.List.{List}

@@ -1,6 +1,5 @@
--- Document 01's example of a report, proved of the definition: "Two banks, one image, all accepted, active 0,
--- previous 1, copy 0 read", with its line ends. Copy 1 and the bytes behind the record may be anything. Assumes
--- nothing.
+-- The customer's example of a report, proved of the definition: two banks, one image, all accepted, active 0, previous
+-- 1, copy 0 read. Copy 1 and the bytes behind the record may be anything. Assumes nothing.
 use mathlib.Core.Path.{_≡_}
 use mathlib.Core.List.{List, [], _∷_, _++_}
 use Prim.Native.Nat.{ℕ}
@@ -9,7 +8,7 @@ use borrow.Author.Tests.{eq-eqb}
 use lib.ListN.{length, length-append}
 use Rattle.fields.specs.Number.{le}
 use Rattle.fields.specs.Guid.{guid, same}
-use Rattle.record_crc.specs.Crc.{step, steps, withByte, withBytes, crc32Of}
+use Rattle.record_crc.specs.Crc.{divisionStep, steps, withByte, withBytes, crc32Of}
 use Rattle.record_layout.specs.Every.{below}
 use Rattle.record_layout.specs.Layout.{areaSize, recordOf}
 use Rattle.record_layout.specs.Rules as rule
@@ -37,6 +36,6 @@ unfolding reportOf reportBy readTests decide recordLines headLines bankLine imag
     decimal digits sourceOf readFrom recordOf rule.soundCopy rule.sound rule.versionRule rule.bankCountRule
     rule.imageCountRule rule.bankEntrySizeRule rule.imageEntrySizeRule rule.sizeRule rule.descriptorOffsetRule
     rule.reservedRule rule.banksNamedRule rule.acceptedRule rule.typeGuidsRule rule.stateAllowed rule.statesRule
-    rule.allAccepted rule.bankConsistent rule.banksRule rule.crcRule below le guid same step steps withByte withBytes
+    rule.allAccepted rule.bankConsistent rule.banksRule rule.crcRule below le guid same divisionStep steps withByte withBytes
     crc32Of
 example rest h = rw (eq-eqb (length (exampleRecord ++ rest)) areaSize (omega (arith, length-append exampleRecord rest)))

@@ -1,2 +1,2 @@
--- Document 01's example of a report. Assumes nothing.
+-- An example of a report (T1 to T5). Assumes nothing.
 pub mod Example

@@ -1,3 +1,3 @@
--- The starred samples of document 01. Assumes nothing.
+-- The customer's samples that are proved together. Assumes nothing.
 pub mod Windows
 pub mod Samples

@@ -1,6 +1,5 @@
--- The starred samples of document 01 ("Samples on the rail"), 1 to 7 and 9 to 11, as one table under a single claim. A
--- sample of another kind joins as one more constructor of `Sample`, one more line of `holds` and its rows. Assumes
--- nothing.
+-- The customer's samples 1 to 7 and 9 to 11 (docs/RULES.md, Samples), as one table under a single claim. A sample of
+-- another kind joins as one more constructor of `Sample`, one more line of `holds` and its rows. Assumes nothing.
 use Prim.Native.Nat.{ℕ, _-_, _^_}
 use mathlib.Core.Bool.{Bool, true, false, _&&_}
 use mathlib.Core.List.{List, [], _∷_}
@@ -12,16 +11,16 @@ use Rattle.gather_descriptors.specs.Reading.{lengthOf, addressOf, withDescripto
 use Rattle.gather_place.specs.Place.{apart, clearOf, clearOfAll, free, lowest, placeFor}
 use Rattle.gather_blocks.specs.Blocks.{block, blocks}
 use Rattle.gather.specs.Gather.{Answer, refusal, place, copiedTo, finished, gathered}
-use Rattle.record_crc.specs.Crc.{step, steps, withByte, withBytes, crc32Of}
+use Rattle.record_crc.specs.Crc.{divisionStep, steps, withByte, withBytes, crc32Of}
 use Rattle.record_layout.specs.Layout.{recordSize, updateBank}
 use Rattle.proof_samples.specs.Windows.{descriptors, window}
 
 -- whether two answers are the same
-unfoldable pub same : Answer → Answer → Bool
-same (refusal n) (refusal m) = eqb n m
-same (refusal n) (place a t) = false
-same (place b u) (refusal m) = false
-same (place b u) (place a t) = eqb b a && eqb u t
+unfoldable pub sameAnswer : Answer → Answer → Bool
+sameAnswer (refusal n) (refusal m) = eqb n m
+sameAnswer (refusal n) (place a t) = false
+sameAnswer (place b u) (refusal m) = false
+sameAnswer (place b u) (place a t) = eqb b a && eqb u t
 
 pub data Sample : Type 0 where
   -- Length and Address of the descriptors at the window's start, and what gathering from there answers
@@ -34,15 +33,15 @@ pub data Sample : Type 0 where
   updating : (banks active : ℕ) → ℕ → Sample
 
 unfoldable pub holds : Sample → Bool
-unfolding same window gathered
-holds (gathering pairs answer) = same (gathered (window pairs) 0x1000 0x1000 .0) answer
+unfolding sameAnswer window gathered
+holds (gathering pairs answer) = sameAnswer (gathered (window pairs) 0x1000 0x1000 .0) answer
 holds (checksum bytes crc) = eqb (crc32Of bytes) crc
 holds (recordSized banks images size) = eqb (recordSize banks images) size
 holds (updating banks active bank) = eqb (updateBank banks active) bank
 
-unfoldable pub all : List Sample → Bool
-all [] = true
-all (s ∷ ss) = holds s && all ss
+unfoldable pub allHold : List Sample → Bool
+allHold [] = true
+allHold (s ∷ ss) = holds s && allHold ss
 
 abbrev pub table : List Sample
 table =
@@ -71,8 +70,8 @@ table =
     ∷ updating 3 2 0
     ∷ []
 
-pub samples : all table ≡ true
-unfolding all holds same step steps withByte withBytes crc32Of window descriptors bytes le put within lengthOf addressOf
+pub samples : allHold table ≡ true
+unfolding allHold holds sameAnswer divisionStep steps withByte withBytes crc32Of window descriptors bytes le put within lengthOf addressOf
     descriptorFits withDescriptor jumpOrEnd dataBlock walk reading apart clearOf clearOfAll free lowest placeFor block blocks
     copiedTo finished gathered
 samples = refl

@@ -1,5 +1,4 @@
--- The windows of document 01's samples on gathering: B is 0x1000 and N is 256, and the list stands at 0x1000. Assumes
--- nothing.
+-- The windows of the samples on gathering: B is 0x1000 and N is 256, and the list stands at 0x1000. Assumes nothing.
 use Prim.Native.Nat.{ℕ}
 use mathlib.Core.List.{List, [], _∷_, _++_}
 use lib.ListN.{take, replicate}

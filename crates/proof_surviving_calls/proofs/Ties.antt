@@ -1,4 +1,4 @@
--- From an entry's own clause to what demand 3 says of its answer. Assumes nothing.
+-- From an entry's own clause to what the statement on power cuts says of its answer. Assumes nothing.
 use mathlib.Core.Path.{_≡_, sym, ap, subst, _∙_}
 use mathlib.Core.List.{List, _∷_}
 use Prim.Native.Nat.{ℕ}

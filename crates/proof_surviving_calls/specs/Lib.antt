@@ -1,2 +1,2 @@
--- The calls and repair, tied to demand 3. Assumes nothing.
+-- The calls and repair, tied to the statement on power cuts. Assumes nothing.
 pub mod Tied

@@ -1,6 +1,7 @@
--- What demand 3 (crates/proof_power_cuts) says of an entry's answer x, and of the numbers out that stand in the slice at exit. k
--- is a call, q the session given, a the bytes of the area, s the numbers of the slice before, n how many stores are
--- done before the cut, es a list of events from there on, r the bytes of a record. Assumes nothing.
+-- What the statement on power cuts (crates/proof_power_cuts, P13) says of an entry's answer x, and of the numbers out
+-- that stand in the slice at exit. k is a call, q the session given, a the bytes of the area, s the numbers of the
+-- slice before, n how many stores are done before the cut, es a list of events from there on, r the bytes of a record.
+-- Assumes nothing.
 use Prim.Native.Nat.{ℕ}
 use mathlib.Core.Path.{_≡_}
 use mathlib.Core.List.{List, _∷_}
@@ -32,7 +33,6 @@ pub record TiedRepair (a s : List ℕ) (x : Reply ℕ) (out : List ℕ) : Type 0
   pub repairs : (count : ℕ) → x ≡ gives count → Repairs a (pairs count out)
   pub listed : (count : ℕ) → x ≡ gives count → Listed s count out
 
--- of start-up: where a record is read, by `Reads` after a cut or a list of demand 3, this is the answer that the record
--- gives
+-- of start-up: where a record is read, by `Reads` after a cut or a list, this is the answer that the record gives
 abbrev pub TiedStartUp : (a : List ℕ) (booted : ℕ) (x : Reply Session) → Type 0
 TiedStartUp a booted x = (r : List ℕ) → Reads a r → x ≡ startedFrom r booted

@@ -1,6 +1,7 @@
-// The entries and the theorem, tied: each function here calls one entry and promises, of its very answer and of the
-// numbers that stand in the slice at exit, what demand 3 says (crates/proof_power_cuts/specs/PowerCuts.antt). That is their whole
-// purpose: no other crate uses them, and the device calls the entries themselves. Nothing is asked of the arguments.
+// The entries and the theorem, tied (P13): each function here calls one entry and promises, of its very answer and of
+// the numbers that stand in the slice at exit, what crates/proof_power_cuts/specs/PowerCuts.antt says. That is their
+// whole purpose: no other crate uses them, and the device calls the entries themselves. Nothing is asked of the
+// arguments.
 use update_repair::Repaired;
 use update_session::Answer;
 use update_session::Session;

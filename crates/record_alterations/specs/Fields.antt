@@ -1,5 +1,4 @@
--- A record with one field anew (document 01, "Power cuts": "The new one is the old with what the call's line above
--- alters, its CRC worked anew."). r is the bytes of a record. Assumes nothing.
+-- A record with one field anew, and one with its CRC anew (S17). r is the bytes of a record. Assumes nothing.
 use Prim.Native.Nat.{ℕ}
 use mathlib.Core.List.{List, [], _∷_}
 use Rattle.fields.specs.Number.{bytes, put}
@@ -19,6 +18,6 @@ setState b s r = put r (stateAt b) (s ∷ [])
 unfoldable pub setAccepted : (i b flag : ℕ) → List ℕ → List ℕ
 setAccepted i b flag r = put r (acceptedAt (bankCount r) i b) (bytes 4 flag)
 
--- "its CRC worked anew"
+-- the CRC worked anew
 unfoldable pub withCrc : List ℕ → List ℕ
 withCrc r = put r crcAt (bytes 4 (crcOf r))

@@ -1,6 +1,5 @@
-// A record with some of its words anew (document 01, "Power cuts": "The new one is the old with what the call's line
-// above alters, its CRC worked anew."). The new record stands nowhere in memory: each of its words is told from the old
-// record and the alteration.
+// A record with some of its words and its CRC anew (S17). The new record stands nowhere in memory: each of its words is
+// told from the old record and the alteration.
 use fields::read32;
 use record_crc::ALL_ONES;
 use record_crc::with_word;
@@ -91,7 +90,7 @@ pub fn new_word(r: &[u8], banks: usize, x: Alteration, o: usize) -> u32
     entry_word(r, banks, x, o)
 }
 
-// The new record's CRC, "over bytes 4 to size".
+// The new record's CRC (R4).
 pub fn new_crc(r: &[u8], banks: usize, x: Alteration) -> u32
     requires { ⌜ Alterable x (now r) banks ⌝ }
     ensures { λ q. ⌜ q ≡ crcOf (alteredBy x (now (r .entry))) ⌝ }

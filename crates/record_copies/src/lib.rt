@@ -1,5 +1,4 @@
-// The two copies of the record in an area (document 01, "The record"): which is read, the record in it, and whether
-// they are equal.
+// The two copies of the record in an area: which is read, the record in it, and whether they are equal (R20, R21).
 use record_layout::COPY;
 use record_layout::record_at;
 use record_layout::record_in_copy0;

@@ -1,16 +1,15 @@
-// CRC-32 (document 01, "The record": "the GPT's (reflected, 0xEDB88320, start and final exclusive-or all ones)"), bit
-// by bit. Callers go by the promises of `crc32` and `with_word` alone, so a table changes only what stands in this
-// crate.
+// CRC-32 (R4), bit by bit. Callers go by the promises of `crc32` and `with_word` alone, so a table would change only
+// what stands in this crate.
 ghost use mathlib.Core.Path.{_≡_};
 ghost use Rattle.fields.specs.Number.{bytes};
-ghost use Rattle.record_crc.specs.Crc.{step, withByte, withBytes, crc32Of};
+ghost use Rattle.record_crc.specs.Crc.{divisionStep, withByte, withBytes, crc32Of};
 
-// "start and final exclusive-or all ones"
+// The register at the start, and what the final one is exclusive-ored with.
 pub const ALL_ONES: u32 = 0xFFFF_FFFF;
 
 // One step of the division: the lowest bit goes, and the polynomial is taken off where that bit was 1.
 fn divide(r: u32) -> u32
-    ensures { λ q. ⌜ q ≡ step r ⌝ }
+    ensures { λ q. ⌜ q ≡ divisionStep r ⌝ }
 {
     (r / 2) ^ (r % 2 * 0xEDB8_8320)
 }

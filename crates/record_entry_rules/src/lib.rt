@@ -1,5 +1,5 @@
-// The rules on the words and type GUIDs of a record's image entries (document 01, "The record": rules 8, 10 and 11).
-// The counts and the length have been tested (`Sized`) before anything here reads an entry.
+// The rules of soundness on the words and type GUIDs of a record's image entries (R13, R15, R16). The counts and the
+// length have been tested (`Sized`) before anything here reads an entry.
 use fields::read16;
 use fields::read32;
 use fields::same_guid;
@@ -49,7 +49,7 @@ fn all_words(r: &[u8], banks: usize, images: usize, from: usize, limit: u32) -> 
     true
 }
 
-// Rule 8.
+// R13: reserved fields are 0.
 pub fn reserved_rule(r: &[u8], banks: usize, images: usize) -> bool
     requires { ⌜ Sized (now r) banks images ⌝ }
     ensures { λ x. ⌜ x ≡ reservedRule (now (r .entry)) ⌝ }
@@ -66,7 +66,7 @@ pub fn reserved_rule(r: &[u8], banks: usize, images: usize) -> bool
     all_words(r, banks, images, RESERVED_FROM, 0)
 }
 
-// Rule 10.
+// R15: accepted fields are 0 or 1.
 pub fn accepted_rule(r: &[u8], banks: usize, images: usize) -> bool
     requires { ⌜ Sized (now r) banks images ⌝ }
     ensures { λ x. ⌜ x ≡ acceptedRule (now (r .entry)) ⌝ }
@@ -90,7 +90,7 @@ fn guid_differs(r: &[u8], banks: usize, images: usize, i: usize) -> bool
     true
 }
 
-// Rule 11.
+// R16: type GUIDs are all different.
 pub fn type_guids_rule(r: &[u8], banks: usize, images: usize) -> bool
     requires { ⌜ Sized (now r) banks images ⌝ }
     ensures { λ x. ⌜ x ≡ typeGuidsRule (now (r .entry)) ⌝ }

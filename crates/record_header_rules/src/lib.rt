@@ -1,5 +1,5 @@
-// The rules on the record's header (document 01, "The record", rules 1 to 7 and 9). Each is a function that answers
-// what its definition says.
+// The rules of soundness on the record's header (R6 to R12, R14). Each is a function that answers what its definition
+// says.
 use fields::read16;
 use record_layout::BANK_ENTRY;
 use record_layout::BANK_ENTRY_SIZE_AT;
@@ -22,7 +22,7 @@ ghost use Rattle.record_layout.specs.Layout.{headerSize};
 ghost use Rattle.record_layout.specs.Rules.{versionRule, bankCountRule, imageCountRule, bankEntrySizeRule};
 ghost use Rattle.record_layout.specs.Rules.{imageEntrySizeRule, sizeRule, descriptorOffsetRule, banksNamedRule};
 
-// Rule 1.
+// R6: the version is 2.
 pub fn version_rule(r: &[u8]) -> bool
     requires { ⌜ headerSize ≤ length (now r) ⌝ }
     ensures { λ b. ⌜ b ≡ versionRule (now (r .entry)) ⌝ }
@@ -30,7 +30,7 @@ pub fn version_rule(r: &[u8]) -> bool
     version(r) == 2
 }
 
-// Rule 2.
+// R7: 2 to 4 banks.
 pub fn bank_count_rule(r: &[u8]) -> bool
     requires { ⌜ headerSize ≤ length (now r) ⌝ }
     ensures { λ b. ⌜ b ≡ bankCountRule (now (r .entry)) ⌝ }
@@ -42,7 +42,7 @@ pub fn bank_count_rule(r: &[u8]) -> bool
     banks <= BANK_LIMIT
 }
 
-// Rule 3.
+// R8: 1 to 32 images.
 pub fn image_count_rule(r: &[u8]) -> bool
     requires { ⌜ headerSize ≤ length (now r) ⌝ }
     ensures { λ b. ⌜ b ≡ imageCountRule (now (r .entry)) ⌝ }
@@ -54,7 +54,7 @@ pub fn image_count_rule(r: &[u8]) -> bool
     images <= IMAGE_LIMIT
 }
 
-// Rule 4.
+// R9: the bank entry size.
 pub fn bank_entry_size_rule(r: &[u8]) -> bool
     requires { ⌜ headerSize ≤ length (now r) ⌝ }
     ensures { λ b. ⌜ b ≡ bankEntrySizeRule (now (r .entry)) ⌝ }
@@ -62,7 +62,7 @@ pub fn bank_entry_size_rule(r: &[u8]) -> bool
     read16(r, BANK_ENTRY_SIZE_AT) as usize == BANK_ENTRY
 }
 
-// Rule 5.
+// R10: the image entry size.
 pub fn image_entry_size_rule(r: &[u8]) -> bool
     requires { ⌜ headerSize ≤ length (now r) ⌝ }
     ensures { λ b. ⌜ b ≡ imageEntrySizeRule (now (r .entry)) ⌝ }
@@ -70,7 +70,7 @@ pub fn image_entry_size_rule(r: &[u8]) -> bool
     read16(r, IMAGE_ENTRY_SIZE_AT) as usize == entry_size(bank_count(r))
 }
 
-// Rule 6.
+// R11: the size, and that so many bytes are there.
 pub fn size_rule(r: &[u8]) -> bool
     requires { ⌜ headerSize ≤ length (now r) ⌝ }
     ensures { λ b. ⌜ b ≡ sizeRule (now (r .entry)) ⌝ }
@@ -82,7 +82,7 @@ pub fn size_rule(r: &[u8]) -> bool
     r.len() == n
 }
 
-// Rule 7.
+// R12: the descriptor offset.
 pub fn descriptor_offset_rule(r: &[u8]) -> bool
     requires { ⌜ headerSize ≤ length (now r) ⌝ }
     ensures { λ b. ⌜ b ≡ descriptorOffsetRule (now (r .entry)) ⌝ }
@@ -90,7 +90,7 @@ pub fn descriptor_offset_rule(r: &[u8]) -> bool
     read16(r, DESCRIPTOR_OFFSET_AT) == 32
 }
 
-// Rule 9.
+// R14: active and previous name banks.
 pub fn banks_named_rule(r: &[u8]) -> bool
     requires { ⌜ headerSize ≤ length (now r) ⌝ }
     ensures { λ b. ⌜ b ≡ banksNamedRule (now (r .entry)) ⌝ }

@@ -1,5 +1,5 @@
--- Record version 2: where each field stands (document 01, "The record"). r is the bytes of a record, the first at
--- offset 0. The definitions take sizes, limits and offsets from here. Assumes nothing.
+-- Record version 2: where each field stands (R1 to R3). r is the bytes of a record, the first at offset 0. The
+-- definitions take sizes, limits and offsets from here. Assumes nothing.
 use Prim.Native.Nat.{ℕ, _+_, _*_, _%_}
 use mathlib.Core.Bool.{cond}
 use mathlib.Core.List.{List}
@@ -8,7 +8,7 @@ use lib.ListN.{take, drop, getD}
 use Rattle.fields.specs.Number.{le}
 use Rattle.fields.specs.Guid.{guid}
 
--- "An area is 16,384 bytes: copy 0 at 0, copy 1 at 8,192."
+-- R1: an area and its copies
 abbrev pub areaSize : ℕ
 areaSize = 16384
 
@@ -24,19 +24,19 @@ copy0 a = take copySize a
 abbrev pub copy1 : List ℕ → List ℕ
 copy1 a = take copySize (drop copySize a)
 
--- "Entries start at 40"
+-- R2: the header's length, behind which the entries start
 abbrev pub headerSize : ℕ
 headerSize = 40
 
--- "banks 2 to 4", and as many bank-state bytes
+-- R7: how many banks there are at most, and as many bytes of bank states
 abbrev pub bankLimit : ℕ
 bankLimit = 4
 
--- "images 1 to 32"
+-- R8: how many images there are at most
 abbrev pub imageLimit : ℕ
 imageLimit = 32
 
--- "crc_32 at 0, version 4, active 8, previous 12, size 16 (32 bits each)"
+-- R2: the fields of the header
 abbrev pub crcAt : ℕ
 crcAt = 0
 
@@ -64,21 +64,19 @@ previous r = le 4 r previousAt
 abbrev pub size : List ℕ → ℕ
 size r = le 4 r 16
 
--- "descriptor offset 20 (16 bits, 32); reserved 22 (16 bits)"
 abbrev pub descriptorOffset : List ℕ → ℕ
 descriptorOffset r = le 2 r 20
 
 abbrev pub reserved22 : List ℕ → ℕ
 reserved22 r = le 2 r 22
 
--- "four bank-state bytes at 24"
+-- a byte for each of four banks
 abbrev pub stateAt : ℕ → ℕ
 stateAt b = 24 + b
 
 abbrev pub state : List ℕ → ℕ → ℕ
 state r b = getD r (stateAt b) 0
 
--- "reserved 28 (32 bits); bank count 32 (byte); reserved 33"
 abbrev pub reserved28 : List ℕ → ℕ
 reserved28 r = le 4 r 28
 
@@ -88,7 +86,6 @@ bankCount r = getD r 32 0
 abbrev pub reserved33 : List ℕ → ℕ
 reserved33 r = getD r 33 0
 
--- "image count 34, image entry size 36, bank entry size 38 (16 bits each)"
 abbrev pub imageCount : List ℕ → ℕ
 imageCount r = le 2 r 34
 
@@ -98,11 +95,11 @@ imageEntrySize r = le 2 r 36
 abbrev pub bankEntrySize : List ℕ → ℕ
 bankEntrySize r = le 2 r 38
 
--- "type GUID, location GUID, then per bank 24 bytes": how long an image's entry is for that many banks
+-- R3: how long an image's entry is for that many banks
 abbrev pub entrySize : ℕ → ℕ
 entrySize banks = 32 + 24 * banks
 
--- "size 40 + images x entry size"
+-- R11: the size of a record
 abbrev pub recordSize : ℕ → ℕ → ℕ
 recordSize banks images = headerSize + images * entrySize banks
 
@@ -110,7 +107,7 @@ recordSize banks images = headerSize + images * entrySize banks
 abbrev pub recordLimit : ℕ
 recordLimit = recordSize bankLimit imageLimit
 
--- "Entries start at 40": the entry of image i
+-- the entry of image i
 abbrev pub entryAt : ℕ → ℕ → ℕ
 entryAt banks i = headerSize + i * entrySize banks
 
@@ -118,7 +115,7 @@ entryAt banks i = headerSize + i * entrySize banks
 abbrev pub typeGuid : List ℕ → ℕ → List ℕ
 typeGuid r i = guid r (entryAt (bankCount r) i)
 
--- "per bank 24 bytes of image GUID, accepted (32 bits), reserved (32 bits)"
+-- R3: what an image's entry has of each bank
 abbrev pub bankEntryAt : ℕ → ℕ → ℕ → ℕ
 bankEntryAt banks i b = entryAt banks i + 32 + 24 * b
 
@@ -136,10 +133,10 @@ reserved r i b = le 4 r (reservedAt (bankCount r) i b)
 
 -- the record in a copy: as many bytes as its size says, and the header in any case, so that its fields can be judged.
 -- Where the size is right it is never below the header's. Where it is above 8,192, `take` stops at the copy's end: the
--- record is then shorter than its size says, and rule 6 fails
+-- record is then shorter than its size says, and R11 fails
 unfoldable pub recordOf : List ℕ → List ℕ
 recordOf c = take (cond (leb headerSize (size c)) (size c) headerSize) c
 
--- "the update bank is (active + 1) mod banks"
+-- the update bank (S4)
 abbrev pub updateBank : (banks active : ℕ) → ℕ
 updateBank banks active = (active + 1) % banks

@@ -1,5 +1,5 @@
--- When a copy is sound (document 01, "The record": "A copy is sound exactly if: .."): fourteen rules, in the order in
--- which semicolons part them, each over the bytes r of a record alone. Assumes nothing.
+-- When a copy is sound (R5): the fourteen rules R6 to R19 in their order, each over the bytes r of a record alone.
+-- Assumes nothing.
 use Prim.Native.Nat.{ℕ}
 use mathlib.Core.Bool.{Bool, true, cond, not, _&&_, _||_}
 use mathlib.Core.List.{List, [], _∷_}
@@ -12,32 +12,32 @@ use Rattle.record_layout.specs.Layout.{imageLimit, bankLimit, versionAt,
 use Rattle.record_layout.specs.Layout.{reserved22, state, reserved28, bankCount, reserved33, imageCount, imageEntrySize, bankEntrySize}
 use Rattle.record_layout.specs.Layout.{entrySize, recordSize, typeGuid, accepted, reserved, recordOf}
 
--- 1: "version is 2"
+-- R6: the version is 2
 unfoldable pub versionRule : List ℕ → Bool
 versionRule r = eqb (version r) 2
 
--- 2: "banks 2 to 4"
+-- R7: 2 to 4 banks
 unfoldable pub bankCountRule : List ℕ → Bool
 bankCountRule r = leb 2 (bankCount r) && leb (bankCount r) bankLimit
 
--- 3: "images 1 to 32"
+-- R8: 1 to 32 images
 unfoldable pub imageCountRule : List ℕ → Bool
 imageCountRule r = leb 1 (imageCount r) && leb (imageCount r) imageLimit
 
--- 4: "bank entry size 24"
+-- R9: the bank entry size
 unfoldable pub bankEntrySizeRule : List ℕ → Bool
 bankEntrySizeRule r = eqb (bankEntrySize r) 24
 
--- 5: "image entry size 32 + 24 x banks"
+-- R10: the image entry size
 unfoldable pub imageEntrySizeRule : List ℕ → Bool
 imageEntrySizeRule r = eqb (imageEntrySize r) (entrySize (bankCount r))
 
--- 6: "size 40 + images x entry size"; and the record is as many bytes long. `recordOf` takes so many from a copy where
--- the size is from 40 to 8,192; a larger one fails here
+-- R11: the size; and the record is as many bytes long. `recordOf` takes so many from a copy where the size is from 40
+-- to 8,192; a larger one fails here
 unfoldable pub sizeRule : List ℕ → Bool
 sizeRule r = eqb (size r) (recordSize (bankCount r) (imageCount r)) && eqb (length r) (size r)
 
--- 7: "descriptor offset 32"
+-- R12: the descriptor offset
 unfoldable pub descriptorOffsetRule : List ℕ → Bool
 descriptorOffsetRule r = eqb (descriptorOffset r) 32
 
@@ -45,24 +45,24 @@ descriptorOffsetRule r = eqb (descriptorOffset r) 32
 abbrev pub everywhere : List ℕ → (ℕ → ℕ → Bool) → Bool
 everywhere r test = below (imageCount r) (λ i. below (bankCount r) (test i))
 
--- 8: "reserved fields 0": those of the header, and each bank's of each image
+-- R13: the reserved fields of the header, and each bank's of each image
 unfoldable pub reservedRule : List ℕ → Bool
 reservedRule r =
     (eqb (reserved22 r) 0 && (eqb (reserved28 r) 0 && eqb (reserved33 r) 0)) && everywhere r (λ i b. eqb (reserved r i b) 0)
 
--- 9: "active and previous below the bank count"
+-- R14: active and previous name banks
 unfoldable pub banksNamedRule : List ℕ → Bool
 banksNamedRule r = ltb (active r) (bankCount r) && ltb (previous r) (bankCount r)
 
--- 10: "accepted 0 or 1"
+-- R15: accepted fields are 0 or 1
 unfoldable pub acceptedRule : List ℕ → Bool
 acceptedRule r = everywhere r (λ i b. leb (accepted r i b) 1)
 
--- 11: "type GUIDs all different": each differs from those before it
+-- R16: each type GUID differs from those before it
 unfoldable pub typeGuidsRule : List ℕ → Bool
 typeGuidsRule r = below (imageCount r) (λ i. below i (λ j. not (same (typeGuid r j) (typeGuid r i))))
 
--- "255 invalid, 254 valid, 252 accepted"
+-- the states of a bank (R17)
 abbrev pub invalid : ℕ
 invalid = 255
 
@@ -72,7 +72,7 @@ valid = 254
 abbrev pub acceptedBank : ℕ
 acceptedBank = 252
 
--- 12: "bank states 255 invalid, 254 valid, 252 accepted, and 255 past the bank count"
+-- R17: one of the three, and 255 past the bank count
 abbrev pub stateKnown : ℕ → Bool
 stateKnown s = eqb s invalid || (eqb s valid || eqb s acceptedBank)
 
@@ -86,7 +86,7 @@ statesRule r = below bankLimit (λ b. stateAllowed (bankCount r) b (state r b))
 unfoldable pub allAccepted : List ℕ → ℕ → Bool
 allAccepted r b = below (imageCount r) (λ i. eqb (accepted r i b) 1)
 
--- 13: "a 252 bank has every image accepted, a 254 bank has one that isn't, the active bank isn't 255"
+-- R18: what is accepted in a bank fits its state, and the active bank isn't 255
 unfoldable pub bankConsistent : List ℕ → ℕ → Bool
 bankConsistent r b =
     cond (eqb (state r b) acceptedBank) (allAccepted r b) (cond (eqb (state r b) valid) (not (allAccepted r b)) true)
@@ -94,11 +94,11 @@ bankConsistent r b =
 unfoldable pub banksRule : List ℕ → Bool
 banksRule r = below (bankCount r) (bankConsistent r) && not (eqb (state r (active r)) invalid)
 
--- "CRC-32 is the GPT's (..), over bytes 4 to size", where r ends by rule 6
+-- R4: over bytes 4 to size, where r ends by R11
 abbrev pub crcOf : List ℕ → ℕ
 crcOf r = crc32Of (drop versionAt r)
 
--- 14: "the CRC agrees"
+-- R19: the CRC agrees
 unfoldable pub crcRule : List ℕ → Bool
 crcRule r = eqb (crc r) (crcOf r)
 
@@ -130,6 +130,6 @@ each (test ∷ tests) r = test r && each tests r
 unfoldable pub sound : List ℕ → Bool
 sound r = each rules r
 
--- "A copy is sound exactly if": its record is
+-- a copy is sound exactly if its record is (R5)
 unfoldable pub soundCopy : List ℕ → Bool
 soundCopy c = sound (recordOf c)

@@ -1,6 +1,6 @@
--- What the functions on entries ask of each other: the counts of banks and images, and the length that rules 2, 3 and 6
--- give; the rules in two parts, as the code tests them. Nothing here is needed to read the rules or an entry's promise.
--- Assumes nothing.
+-- What the functions on entries ask of each other: the counts of banks and images, and the length that R7, R8 and R11
+-- give; the rules of soundness in two parts, as the code tests them. Nothing here is needed to read the rules or an
+-- entry's promise. Assumes nothing.
 use Prim.Native.Nat.{ℕ, _+_, _≤_}
 use mathlib.Core.Bool.{Bool}
 use lib.Dec.{leb}
@@ -25,7 +25,7 @@ pub record Sized (r : List ℕ) (banks images : ℕ) : Type 0 where
 unfoldable pub bankWords : List ℕ → (banks from limit i : ℕ) → Bool
 bankWords r banks from limit i = below banks (λ b. leb (le 4 r (bankEntryAt banks i b + from)) limit)
 
--- the rules on which the length rests, 1 to 6, and those behind them, 7 to 14
+-- the rules on which the length rests, R6 to R11, and those behind them, R12 to R19
 unfoldable pub firstSix : List ℕ → Bool
 firstSix r = each (take 6 rules) r
 

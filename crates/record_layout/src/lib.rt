@@ -1,6 +1,6 @@
-// The record's layout (document 01, "The record"): the record in a copy and in each copy of an area, its fields by
-// name, where an image's entry stands in it, and its accepted word in a bank. A record is a slice of the area's own
-// bytes; nothing is copied. The rules are defined here, and tested in the crates above.
+// The record's layout (R1 to R3): the record in a copy and in each copy of an area, its fields by name, where an
+// image's entry stands in it, and its accepted word in a bank. A record is a slice of the area's own bytes; nothing is
+// copied. The rules of soundness are defined here, and tested in the crates above.
 use fields::read16;
 use fields::read32;
 ghost use mathlib.Core.Path.{_≡_};
@@ -49,7 +49,7 @@ pub const IMAGE_ENTRY_SIZE_AT: usize = 36;
 
 pub const BANK_ENTRY_SIZE_AT: usize = 38;
 
-// The limits of the two counts.
+// The limits of the two counts (R7, R8).
 pub const BANK_LIMIT: usize = 4;
 
 pub const IMAGE_LIMIT: usize = 32;
@@ -64,7 +64,7 @@ pub const ACCEPTED_FROM: usize = 16;
 
 pub const RESERVED_FROM: usize = 20;
 
-// The three bank states.
+// The three bank states (R17).
 pub const INVALID: u8 = 255;
 
 pub const VALID: u8 = 254;

@@ -1,4 +1,4 @@
-// Whether a copy is sound (document 01, "The record"): the fourteen rules, in their order.
+// Whether a copy is sound (R5): R6 to R19, in their order.
 use fields::read32;
 use record_crc::crc32;
 use record_entry_rules::accepted_rule;
@@ -27,7 +27,7 @@ ghost use Rattle.record_layout.specs.Layout.{headerSize};
 ghost use Rattle.record_layout.specs.Rules.{crcRule, sound, soundCopy};
 ghost use Rattle.record_layout.specs.Sized.{Sized, firstSix, lastEight};
 
-// Rule 14.
+// R19: the CRC agrees.
 fn crc_rule(r: &[u8]) -> bool
     requires { ⌜ headerSize ≤ length (now r) ⌝ }
     ensures { λ b. ⌜ b ≡ crcRule (now (r .entry)) ⌝ }
@@ -35,7 +35,7 @@ fn crc_rule(r: &[u8]) -> bool
     read32(r, CRC_AT) == crc32(&r[VERSION_AT..])
 }
 
-// Rules 1 to 6, on which the record's length rests.
+// R6 to R11, on which the record's length rests.
 fn first_six(r: &[u8]) -> bool
     requires { ⌜ headerSize ≤ length (now r) ⌝ }
     ensures { λ b. ⌜ b ≡ firstSix (now (r .entry)) ⌝ }
@@ -58,7 +58,7 @@ fn first_six(r: &[u8]) -> bool
     size_rule(r)
 }
 
-// Rules 7 to 14.
+// R12 to R19.
 fn last_eight(r: &[u8], banks: usize, images: usize) -> bool
     requires { ⌜ Sized (now r) banks images ⌝ }
     ensures { λ b. ⌜ b ≡ lastEight (now (r .entry)) ⌝ }

@@ -1,5 +1,5 @@
-// The rules on a record's bank states and on what is accepted in each bank (document 01, "The record": rules 12 and
-// 13). The counts and the length have been tested (`Sized`) before anything here reads an entry.
+// The rules of soundness on a record's bank states and on what is accepted in each bank (R17, R18). The counts and the
+// length have been tested (`Sized`) before anything here reads an entry.
 use record_layout::ACCEPTED;
 use record_layout::BANK_LIMIT;
 use record_layout::INVALID;
@@ -29,7 +29,7 @@ fn state_allowed(banks: usize, b: usize, s: u8) -> bool
     s == ACCEPTED
 }
 
-// Rule 12.
+// R17: each bank has one of its states.
 pub fn states_rule(r: &[u8], banks: usize, images: usize) -> bool
     requires { ⌜ Sized (now r) banks images ⌝ }
     ensures { λ x. ⌜ x ≡ statesRule (now (r .entry)) ⌝ }
@@ -74,7 +74,8 @@ fn bank_consistent(r: &[u8], banks: usize, images: usize, b: usize) -> bool
     true
 }
 
-// Rule 13, where the active bank exists.
+// R18: what is accepted in each bank fits its state, and the active bank is not 255. It must be one that the record
+// has.
 pub fn banks_rule(r: &[u8], banks: usize, images: usize, active: usize) -> bool
     requires { ⌜ Sized (now r) banks images × (active < banks) × (active ≡ le 4 (now r) activeAt) ⌝ }
     ensures { λ x. ⌜ x ≡ banksRule (now (r .entry)) ⌝ }

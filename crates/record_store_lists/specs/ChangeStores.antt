@@ -1,7 +1,7 @@
--- The stores of a change and of a repair (document 01, "Session and calls"). Which stores are listed, and in what
--- order, is open there; this is what is listed. That both copies hold the record after all of them, and that they
--- survive every cut, is said of the entries' own lists in crates/proof_power_cuts/specs. a is the bytes of an area, new those of
--- the record to be written. Assumes nothing.
+-- The stores of a change and of a repair (R26 to R28). Which stores are listed, and in what order, was open; this is
+-- what is listed. That both copies hold the record after all of them, and that they survive every cut, is said of the
+-- entries' own lists in crates/proof_power_cuts/specs. a is the bytes of an area, new those of the record to be
+-- written. Assumes nothing.
 use Prim.Native.Nat.{ℕ}
 use mathlib.Core.Bool.{cond}
 use mathlib.Core.List.{List, [], _++_}
@@ -26,6 +26,6 @@ otherStores Copy0 a = plan copySize (copy1 a) (readFrom Copy0 a)
 otherStores Copy1 a = plan 0 (copy0 a) (readFrom Copy1 a)
 otherStores Neither a = []
 
--- repair: "none if the copies are sound and equal, else the record read goes into the other copy"
+-- repair: none if the copies are sound and equal, else the record read into the other copy (R27)
 unfoldable pub repairStores : List ℕ → List Store
 repairStores a = cond (soundAndEqual a) [] (otherStores (sourceOf a) a)

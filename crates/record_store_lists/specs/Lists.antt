@@ -15,7 +15,7 @@ pub record Changeable (a d : List ℕ) : Type 0 where
   pub equal : soundAndEqual a ≡ true
   pub room : storeNumbers ≤ length d
 
--- the list ss stands at the slice's front, n pairs; "Numbers past the list stay."
+-- the list ss stands at the slice's front, n pairs; numbers past it stay
 pub record AtFront (n : ℕ) (ss : List Store) (d e : List ℕ) : Type 0 where
   pub count : n ≡ length ss
   pub lists : e ≡ withList d ss

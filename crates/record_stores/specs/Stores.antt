@@ -1,5 +1,5 @@
--- The stores that put a record into a copy, and a list of stores in a slice of numbers (document 01, "Session and
--- calls"). c is the bytes of the copy, r those of the record, base the copy's offset in the area. Assumes nothing.
+-- The stores that put a record into a copy, and a list of stores in a slice of numbers (R22 to R24, R28). c is the
+-- bytes of the copy, r those of the record, base the copy's offset in the area. Assumes nothing.
 use Prim.Native.Nat.{ℕ, zero, suc, _+_, _*_, _-_, _/_}
 use mathlib.Core.Bool.{cond}
 use mathlib.Core.List.{List, [], _∷_, _++_, map}
@@ -8,11 +8,11 @@ use lib.ListN.{length, drop}
 use Rattle.fields.specs.Number.{le}
 use Rattle.record_layout.specs.Layout.{versionAt}
 
--- "a list of stores, each a pair (offset, word)"
+-- a pair (offset, word) (R22)
 abbrev pub Store : Type 0
 Store = ℕ × ℕ
 
--- "That slice must hold 4,200 numbers (2,100 pairs)."
+-- how many numbers a store slice holds at least: 2,100 pairs (R24)
 abbrev pub storeNumbers : ℕ
 storeNumbers = 4200
 
@@ -38,10 +38,10 @@ unfoldable pub differing : List ℕ → List ℕ → List ℕ → List ℕ
 differing c r [] = []
 differing c r (o ∷ os) = cond (eqb (le 4 c o) (le 4 r o)) (differing c r os) (o ∷ differing c r os)
 
--- the first store makes the copy's version 0, the last one sets it right, and between them stand the words that differ:
--- no mixture is sound, whatever its CRC. Which stores are listed, and in what order, is the team's choice: "Open is
--- only which stores are listed and in what order". What document 01 asks of them is said of the calls' and of repair's
--- own lists in crates/proof_power_cuts/specs/PowerCuts.antt, and of `plan` itself in crates/proof_record_cuts/specs/Offsets.antt
+-- R28: the first store makes the copy's version 0, the last one sets it right, and between them stand the words that
+-- differ, so that no mixture is sound, whatever its CRC. Which stores are listed is the team's choice; what is asked of
+-- them is said of the calls' and of repair's own lists in crates/proof_power_cuts/specs/PowerCuts.antt, and of `plan`
+-- itself in crates/proof_record_cuts/specs/Offsets.antt
 unfoldable pub writes : List ℕ → List ℕ → List Store
 writes r os = (versionAt, 0) ∷ (map (store r) os ++ (store r versionAt ∷ []))
 
@@ -53,6 +53,6 @@ unfoldable pub numbersOf : List Store → List ℕ
 numbersOf [] = []
 numbersOf (s ∷ ss) = s .0 ∷ s .1 ∷ numbersOf ss
 
--- a slice of numbers with the list at its front; "Numbers past the list stay."
+-- a slice of numbers with the list at its front; numbers past it stay (R23)
 unfoldable pub withList : List ℕ → List Store → List ℕ
 withList d ss = numbersOf ss ++ drop (2 * length ss) d

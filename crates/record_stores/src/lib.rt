@@ -1,11 +1,11 @@
-// Lists of stores (document 01, "Session and calls"): pairs (offset, word), in a lent slice of 32-bit numbers.
+// Lists of stores (R22, R23): pairs (offset, word), in a lent slice of 32-bit numbers.
 ghost use mathlib.Core.List.{[], _∷_};
 ghost use Prim.Native.Nat.{_+_, _*_, _≤_};
 ghost use lib.ListN.{length};
 ghost use Rattle.record_layout.specs.Layout.{copySize};
 ghost use Rattle.record_stores.specs.Added.{Added, wordStore};
 
-// How many numbers a store slice must hold: 2,100 pairs.
+// How many numbers a store slice must hold: 2,100 pairs (R24).
 pub const STORE_NUMBERS: usize = 4200;
 
 // One pair more, behind k pairs.

@@ -1,4 +1,4 @@
-// The refusals of document 01 ("When the bench says no"), each with its number. Later requests add their cases here.
+// Every refusal, with its number (N1 to N28).
 ghost use mathlib.Core.Path.{_≡_};
 ghost use Rattle.refusals.specs.Number.{numberOf};
 
@@ -53,7 +53,7 @@ pub enum Refusal {
 }
 
 impl Refusal {
-    // The number that document 01 names.
+    // The number (N104).
     pub fn number(self) -> u32
         ensures { λ r. ⌜ r ≡ numberOf self ⌝ }
     {

@@ -1,5 +1,5 @@
--- The report of an area (document 01, "The report"), as bytes. a is the bytes of the area. The report is no
--- call: it needs one sound copy, so 22 is not for it, and a refused area has a report too. Assumes nothing.
+-- The report of an area (T1 to T7), as bytes. a is the bytes of the area. The report is no call: it needs one sound
+-- copy, so 22 is not for it, and a refused area has a report too. Assumes nothing.
 use Prim.Native.Nat.{ℕ}
 use mathlib.Core.Bool.{cond}
 use mathlib.Core.List.{List, [], _∷_, _++_}
@@ -13,7 +13,7 @@ use Rattle.update_admission.specs.Rows.{readTests}
 use Rattle.report_text.specs.Text.{ascii, line}
 use Rattle.report_lines.specs.Lines.{recordLines}
 
--- "Refused: `refused`, tab, number."
+-- the line of a refusal (T6)
 unfoldable pub refusedLine : (number : ℕ) → List ℕ
 refusedLine number = line (ascii "refused") (number ∷ [])
 

@@ -1,4 +1,4 @@
-// The report (document 01, "The report"): an area's record as lines of text, in a lent slice.
+// The report (T1 to T7): an area's record as lines of text, in a lent slice.
 use record_copies::Source;
 use record_copies::read_record;
 use record_copies::read_source;

@@ -1,4 +1,4 @@
-// The report's lines of a sound record (document 01, "The report"), in a lent slice.
+// The report's lines of a sound record (T2 to T5), in a lent slice.
 use record_layout::accepted_word;
 use record_layout::active;
 use record_layout::bank_count;

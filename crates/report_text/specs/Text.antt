@@ -1,4 +1,4 @@
--- Lines of text as bytes (document 01, "The report": "tab-parted lines"). Assumes nothing.
+-- Lines of text as bytes (T1). Assumes nothing.
 use Prim.Native.Nat.{ℕ, zero, suc, _+_, _/_, _%_}
 use Prim.Native.String.{String, len, charAt}
 use Prim.Native.Char.{code}

@@ -1,5 +1,4 @@
-// Lines of text in a lent slice: a word, then numbers in decimal, each behind a tab, and a line feed (document 01, "The
-// report").
+// Lines of text in a lent slice: a word, then numbers in decimal, each behind a tab, and a line feed (T1).
 ghost use mathlib.Core.Path.{_≡_};
 ghost use mathlib.Core.List.{[], _∷_};
 ghost use Prim.Native.Nat.{_<_};

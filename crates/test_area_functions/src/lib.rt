@@ -1,4 +1,4 @@
-// The functions a, o, s and t of crate entry_machine, over lists of stores and over areas.
+// The functions a, o, s and t of crate test_functions, over lists of stores and over areas.
 use c_area::meanderpeg_report;
 use c_area::meanderpeg_soundness;
 use test_machine::answers::answer;

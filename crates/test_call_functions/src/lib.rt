@@ -1,22 +1,23 @@
-// The functions u, r and c of crate entry_machine, over start-up, repair and the six calls.
+// The functions u, r and c of crate test_functions, over start-up, repair and the six calls. A kind in a script is one
+// less than C's.
 use c_accept::meanderpeg_accept;
 use c_accept::meanderpeg_select_previous;
+use c_answer::AnswerNumbers;
 use c_begin::meanderpeg_begin;
 use c_begin::meanderpeg_cancel;
 use c_commit::meanderpeg_commit;
 use c_commit::meanderpeg_end;
+use c_session::SessionNumbers;
 use c_start_up::meanderpeg_repair;
 use c_start_up::meanderpeg_start_up;
 use test_machine::answers::ANSWERS;
-use test_machine::answers::BEFORE;
 use test_machine::answers::answer;
-use test_machine::answers::behind;
 use test_machine::bytes::load;
 use test_machine::pop;
 
 const GUID: usize = 239000;
 
-const RESTART: u64 = 4;
+const RESTART: u32 = 4;
 
 fn fill(out: &mut [u32]) {
     let n = out.len();
@@ -49,110 +50,61 @@ fn low(n: u64) -> u32 {
 // The call of that number, start-up (its booted bank is the request) and repair among them.
 fn call(
     which: u64,
-    area: &[u8],
-    request: u32,
-    kind: &mut u32,
-    bank: &mut u32,
-    set: &mut u32,
-    out: &mut [u32],
-    pairs: &mut usize,
-) -> u32 {
-    match which {
-        0 => meanderpeg_start_up(area, request, kind),
-        1 => meanderpeg_repair(area, out, pairs),
-        2 => meanderpeg_begin(kind, bank, set, area, out, pairs),
-        5 => meanderpeg_cancel(kind, bank, set, area, out, pairs),
-        _ => meanderpeg_select_previous(kind, bank, set, area, out, pairs),
-    }
-}
-
-// The same with the calls that are told an image, or tell that some are missing.
-fn any_call(
-    which: u64,
+    session: SessionNumbers,
     area: &[u8],
     guid: &[u8; 16],
     request: u32,
-    kind: &mut u32,
-    bank: &mut u32,
-    set: &mut u32,
     out: &mut [u32],
-    pairs: &mut usize,
-    missing: &mut u32,
-) -> u32 {
+) -> AnswerNumbers {
     match which {
-        3 => meanderpeg_commit(kind, bank, set, area, guid, request, out, pairs),
-        4 => meanderpeg_end(kind, bank, set, area, out, pairs, missing),
-        6 => meanderpeg_accept(kind, bank, set, area, guid, out, pairs),
-        _ => call(which, area, request, kind, bank, set, out, pairs),
+        0 => meanderpeg_start_up(area, request),
+        1 => meanderpeg_repair(area, out),
+        2 => meanderpeg_begin(session, area, out),
+        3 => meanderpeg_commit(session, area, guid, request, out),
+        4 => meanderpeg_end(session, area, out),
+        5 => meanderpeg_cancel(session, area, out),
+        6 => meanderpeg_accept(session, area, guid, out),
+        _ => meanderpeg_select_previous(session, area, out),
     }
 }
 
-// The session before the call, as answers: repair has Restart. Start-up is given none: any number stands where its kind
-// goes.
-fn session_before(m: &[u8], which: u64) -> [u64; 13] {
+// The session in answers 1 to 3, as C numbers it.
+fn session_before(m: &[u8]) -> SessionNumbers {
+    SessionNumbers {
+        kind: std::num::wrapping_add_u32(low(load(m, ANSWERS + 8, 8)), 1),
+        bank: low(load(m, ANSWERS + 16, 8)),
+        set: low(load(m, ANSWERS + 24, 8)),
+    }
+}
+
+// The kind as a script has it; Restart where the answer is to name no session, of repair and of start-up refused.
+fn kind_after(which: u64, number: u32, kind: u32) -> u32 {
+    if which == 1 {
+        return kind ^ RESTART;
+    }
+    if which == 0 {
+        if number != 0 {
+            return kind ^ RESTART;
+        }
+    }
+    std::num::wrapping_sub_u32(kind, 1)
+}
+
+fn wide(n: u32) -> u64 {
+    n as u64
+}
+
+// The answers of a call, but for what it altered. No refusal fills the second slot.
+fn answers(which: u64, given: AnswerNumbers) -> [u64; 13] {
+    let session = given.session;
+    let told = given.told;
     let mut a = [0u64; 13];
-    if which < 2 {
-        a[1] = if which == 0 { BEFORE } else { RESTART };
-        return a;
-    }
-    a[1] = load(m, ANSWERS + 8, 8);
-    a[2] = load(m, ANSWERS + 16, 8);
-    a[3] = load(m, ANSWERS + 24, 8);
-    a
-}
-
-// The kind after a call; Restart where start-up is refused and left what stood there.
-fn kind_after(which: u64, number: u32, kind: u64) -> u64 {
-    if which != 0 {
-        return kind;
-    }
-    if number == 0 {
-        return kind;
-    }
-    behind(number, kind, BEFORE) ^ RESTART
-}
-
-// The answers of a call, but for what it altered.
-fn answers(
-    which: u64,
-    area: &[u8],
-    guid: [u8; 16],
-    request: u32,
-    before: [u64; 13],
-    out: &mut [u32],
-) -> [u64; 13] {
-    let mut kind = low(before[1]);
-    let mut bank = low(before[2]);
-    let mut set = low(before[3]);
-    let mut pairs = BEFORE as usize;
-    let mut missing = BEFORE as u32;
-    let number = any_call(
-        which,
-        area,
-        &guid,
-        request,
-        &mut kind,
-        &mut bank,
-        &mut set,
-        out,
-        &mut pairs,
-        &mut missing,
-    );
-    let mut a = [0u64; 13];
-    a[0] = number as u64;
-    a[1] = kind_after(which, number, kind as u64);
-    a[2] = bank as u64;
-    a[3] = set as u64;
-    a[4] = if which == 0 {
-        0
-    } else {
-        behind(number, pairs as u64, BEFORE)
-    };
-    a[5] = if number == 27 {
-        missing as u64
-    } else {
-        behind(1, missing as u64, BEFORE)
-    };
+    a[0] = given.refusal as u64;
+    a[1] = kind_after(which, given.refusal, session.kind) as u64;
+    a[2] = session.bank as u64;
+    a[3] = session.set as u64;
+    a[4] = given.pairs as u64;
+    a[5] = wide(told[0]) ^ wide(told[1]);
     a
 }
 
@@ -167,9 +119,10 @@ fn called(m: &mut [u8], out: &mut [u32], which: u64, n: usize, k: usize, request
         return;
     }
     let guid = fields::read_guid(m, GUID);
-    let before = session_before(m, which);
+    let before = session_before(m);
     fill(out);
-    let mut a = answers(which, &m[0..n], guid, low(request), before, &mut out[0..k]);
+    let given = call(which, before, &m[0..n], &guid, low(request), &mut out[0..k]);
+    let mut a = answers(which, given);
     let pairs = a[4] as usize;
     a[6] = altered(out, pairs);
     answer(m, &a);

@@ -1,5 +1,5 @@
-// Power cuts (document 01, "Power cuts"): each call of a change is cut after every number of its stores, and the
-// repairs behind it in the same way, two deep. The changes stand in the file stdin, a script for crate entry_machine.
+// Power cuts (P2 to P11): each call of a change is cut after every number of its stores, and the
+// repairs behind it in the same way, two deep. The changes stand in the file stdin, a script for crate test_functions.
 fn main() {
     test_functions::play();
 }

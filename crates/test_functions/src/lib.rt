@@ -4,8 +4,8 @@
 //     g N base first         gathers in m[0..N]: number, address, total
 //     p length item          the capsule m[0..length]: refusal; start and length of item, image, vendor code; type GUID
 //                            (two words); index; instance; drivers; payloads
-//     q digest length item   pushes the digest with the bytes of item, image and vendor code, as the entries of crate
-//                            capsule hand them out
+//     q digest length item   pushes the digest with the bytes of item, image and vendor code, as the entries of crates
+//                            capsule_items and capsule_parts hand them out
 //     u L booted             start-up on the area m[0..L]: number; kind, bank, set (4 0 0 with a refusal)
 //     r L n                  repair with out[0..n]: number; 4 0 0; pairs; 0; altered
 //     c call L n request     call 2 Begin, 3 Commit, 4 End, 5 Cancel, 6 Accept, 7 Select previous; the session stands

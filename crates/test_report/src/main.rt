@@ -1,7 +1,7 @@
-// The reports of the sample areas in data/: each file's name, then its report, as bench_report prints it.
+// The reports of the sample areas in data/: each file's name, then its report, as print_report prints it.
 // bench/report/main.rs made the files and says what is in them.
 
-// What bench_report does with its standard input.
+// What print_report does with its standard input.
 fn print(fd: i32) {
     let mut area = [0u8; 16385];
     let n = io::read_full(fd, &mut area);

@@ -1,6 +1,5 @@
--- The rows of the table of refusals that look at an area and a store slice (document 01, "When the bench says no"):
--- when each is given, and the refusal. Each entry lists those that it tests, in the order 20, 23, 21, 22. a is the
--- bytes of the area. Assumes nothing.
+-- The tests that look at an area and a store slice (N20 to N23): when each finds a fault, and the refusal. Each entry
+-- lists those that it makes, in the order 20, 23, 21, 22 (N110). a is the bytes of the area. Assumes nothing.
 use Prim.Native.Nat.{ℕ}
 use mathlib.Core.Bool.{not, _||_}
 use mathlib.Core.List.{List, [], _∷_, _++_}
@@ -13,19 +12,19 @@ use Rattle.record_copies.specs.Copies.{soundAndEqual}
 use Rattle.record_stores.specs.Stores.{storeNumbers}
 use Rattle.refusal_order.specs.Decide.{Test}
 
--- 20: "area not 16,384 bytes"
+-- N20: the area's length
 abbrev pub lengthTest : (a : List ℕ) → Test
 lengthTest a = (not (eqb (length a) areaSize), AreaLength)
 
--- 23: "store slice too short"
+-- N23: the store slice is too short
 abbrev pub sliceTest : (sliceLength : ℕ) → Test
 sliceTest sliceLength = (ltb sliceLength storeNumbers, StoreSlice)
 
--- 21: "no sound copy"
+-- N21: no copy is sound
 abbrev pub soundTest : (a : List ℕ) → Test
 soundTest a = (not (soundCopy (copy0 a) || soundCopy (copy1 a)), NoSoundCopy)
 
--- 22: "copies not both sound and equal"
+-- N22: the copies aren't both sound and equal
 abbrev pub equalTest : (a : List ℕ) → Test
 equalTest a = (not (soundAndEqual a), NotSoundAndEqual)
 

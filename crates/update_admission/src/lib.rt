@@ -1,6 +1,5 @@
-// What every call tests of the area and the store slice before it looks at its session (document 01, "When the bench
-// says no"): 20, 23, 21 and 22. The rows themselves, which start-up, repair and the report list too, are in
-// specs/Rows.antt.
+// What every call tests of the area and the store slice before it looks at its session: 20, 23, 21 and 22 (N110). The
+// tests themselves, which start-up, repair and the report list too, are in specs/Rows.antt.
 use record_copies::Source;
 use record_copies::read_source;
 use record_copies::second_agrees;

@@ -1,4 +1,4 @@
-// What each change alters in the record (document 01, "Session and calls").
+// What each change alters in the record (S6, S8, S10, S13, S16), as words.
 use record_alterations::Alteration;
 use record_alterations::unaltered;
 use record_layout::ACCEPTED;
@@ -25,7 +25,7 @@ ghost use Rattle.update_changes.specs.NewRecord.{begunRecord, committedRecord, 
 ghost use Rattle.update_changes.specs.Changed.{changedBy, Names};
 ghost use Rattle.update_alterations.specs.Makes.{Makes, withFull};
 
-// Begin: the update bank "becomes 255 with all images unaccepted".
+// Begin: the update bank 255 with all images unaccepted (S6).
 fn begin_alteration(r: &[u8]) -> Alteration
     requires { ⌜ sound (now r) ≡ true ⌝ }
     ensures { λ x. ⌜ Makes x (now (r .entry)) (begunRecord (now (r .entry))) ⌝ }
@@ -39,7 +39,7 @@ fn begin_alteration(r: &[u8]) -> Alteration
     x
 }
 
-// "0 marks it accepted, above 0 unaccepted"
+// The accepted word for a request (S8).
 fn flag_for(request: u32) -> u32
     ensures { λ f. ⌜ f ≡ cond (eqb request 0) 1 0 ⌝ }
 {
@@ -49,7 +49,7 @@ fn flag_for(request: u32) -> u32
     0
 }
 
-// Commit of image i, in the update bank.
+// Commit of image i, in the update bank (S8).
 fn commit_alteration(r: &[u8], i: usize, request: u32) -> Alteration
     requires { ⌜ (sound (now r) ≡ true) × (i < imageCount (now r)) ⌝ }
     ensures { λ x. ⌜ Makes x (now (r .entry)) (committedRecord i request (now (r .entry))) ⌝ }
@@ -62,7 +62,7 @@ fn commit_alteration(r: &[u8], i: usize, request: u32) -> Alteration
     x
 }
 
-// "The bank becomes 252 if all are accepted, else 254."
+// The state that End gives bank b (S10).
 fn end_state(r: &[u8], b: usize) -> u8
     requires { ⌜ (sound (now r) ≡ true) × (b < bankCount (now r)) ⌝ }
     ensures { λ s. ⌜ s ≡ cond (allAccepted (now (r .entry)) b) acceptedBank valid ⌝ }
@@ -73,7 +73,7 @@ fn end_state(r: &[u8], b: usize) -> u8
     VALID
 }
 
-// End: "Previous takes active, active takes the update bank".
+// End: previous takes active, active takes the update bank (S10).
 fn end_alteration(r: &[u8]) -> Alteration
     requires { ⌜ sound (now r) ≡ true ⌝ }
     ensures { λ x. ⌜ Makes x (now (r .entry)) (endedRecord (now (r .entry))) ⌝ }
@@ -87,7 +87,7 @@ fn end_alteration(r: &[u8]) -> Alteration
     x
 }
 
-// "when all are, the bank is 252"
+// The bank states once image i is accepted in the active bank (S13).
 fn accept_states(r: &[u8], i: usize) -> u32
     requires { ⌜ (sound (now r) ≡ true) × (i < imageCount (now r)) ⌝ }
     ensures { λ w. ⌜ w ≡ le 4 (withFull i (now (r .entry))) (stateAt 0) ⌝ }
@@ -98,7 +98,7 @@ fn accept_states(r: &[u8], i: usize) -> u32
     states(r)
 }
 
-// Accept: "the image becomes accepted in the active bank".
+// Accept of image i, in the active bank (S13).
 fn accept_alteration(r: &[u8], i: usize) -> Alteration
     requires { ⌜ (sound (now r) ≡ true) × (i < imageCount (now r)) ⌝ }
     ensures { λ x. ⌜ Makes x (now (r .entry)) (acceptedRecord i (now (r .entry))) ⌝ }
@@ -112,7 +112,7 @@ fn accept_alteration(r: &[u8], i: usize) -> Alteration
     x
 }
 
-// Select previous: "Active and previous are exchanged."
+// Select previous: active and previous exchanged (S16).
 fn exchange_alteration(r: &[u8]) -> Alteration
     requires { ⌜ sound (now r) ≡ true ⌝ }
     ensures { λ x. ⌜ Makes x (now (r .entry)) (exchangedRecord (now (r .entry))) ⌝ }

@@ -1,6 +1,5 @@
--- The calls, and the record that each makes (document 01, "Session and calls"; "Power cuts": "The new one is the old
--- with what the call's line above alters, its CRC worked anew."). r is the bytes of the old record, g those of a type
--- GUID. Assumes nothing.
+-- The calls, and the record that each makes (S17). r is the bytes of the old record, g those of a type GUID. Assumes
+-- nothing.
 use Prim.Native.Nat.{ℕ, _<_}
 use mathlib.Core.List.{List}
 use Rattle.record_layout.specs.Layout.{imageCount}
@@ -35,7 +34,7 @@ changedBy End r = endedRecord r
 changedBy (Accept i) r = acceptedRecord i r
 changedBy Exchange r = exchangedRecord r
 
--- "The new one is the old with what the call's line above alters, its CRC worked anew."
+-- the new record: the old with what the call alters, its CRC worked anew (S17)
 unfoldable pub newRecord : Call → (r : List ℕ) → List ℕ
 newRecord k r = changedBy (changeOf k r) r
 

@@ -1,6 +1,6 @@
-// What is asked of a record to tell what a call alters in it (document 01, "Session and calls"): the image with a type
-// GUID, the update bank, and what the record says once one of its fields is anew. A record is a slice of the area's own
-// bytes; nothing is copied.
+// What is asked of a record to tell what a call alters in it (S4 to S16): the image with a type GUID, the update bank,
+// and what the record says once one of its fields is anew. A record is a slice of the area's own bytes; nothing is
+// copied.
 use fields::same_guid;
 use record_layout::ACCEPTED;
 use record_layout::accepted_word;
@@ -21,7 +21,7 @@ ghost use Rattle.record_layout.specs.Rules.{acceptedBank, allAccepted, sound};
 ghost use Rattle.record_alterations.specs.Fields.{setState};
 ghost use Rattle.update_changes.specs.NewRecord.{updateBankOf, imageWith, marked};
 
-// What a call alters in the record: nothing; or what the line of a call says, by image and not by GUID. The record that
+// What a call alters in the record: nothing; or what the call's rule says, by image and not by GUID. The record that
 // each makes is `changedBy` of specs/Changed.antt.
 pub enum Change {
     Nothing,
@@ -104,7 +104,7 @@ pub fn states_with(r: &[u8], b: usize, s: u8) -> u32
     low + 65536 * high
 }
 
-// "the update bank is (active + 1) mod banks"
+// The update bank (S4).
 pub fn update_bank(r: &[u8]) -> usize
     requires { ⌜ sound (now r) ≡ true ⌝ }
     ensures { λ b. ⌜ (b ≡ updateBankOf (now (r .entry))) × (b < bankCount (now (r .entry))) ⌝ }

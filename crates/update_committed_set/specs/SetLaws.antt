@@ -1,6 +1,5 @@
--- The set of committed images, image by image (document 01, "Session and calls": "it joins the set"; "every image must
--- be in the set; a refusal tells how many are missing"; "a set bit at or past the image count"): what the bits and the
--- count of ones in specs/Set.antt mean (`set-laws`, proofs/SetLaws.antt). Assumes nothing.
+-- The set of committed images, image by image (S8, S9, N24, N27): what the bits and the count of ones in specs/Set.antt
+-- mean (`set-laws`, proofs/SetLaws.antt). Assumes nothing.
 use Prim.Native.Nat.{ℕ, zero, suc, _+_, _/_, _%_, _^_, _≤_, _<_}
 use mathlib.Core.Path.{_≡_}
 use mathlib.Core.Bool.{Bool, false, cond, _||_}
@@ -14,11 +13,11 @@ use Rattle.update_committed_set.specs.Set.{setBits, joined, missing}
 unfoldable pub inSet : (set i : ℕ) → Bool
 inSet set i = eqb (set / 2 ^ i % 2) 1
 
--- "every image must be in the set"
+-- every one of n images is in the set (S9)
 unfoldable pub everyIn : (n set : ℕ) → Bool
 everyIn n set = below n (inSet set)
 
--- "how many are missing", of n images
+-- how many of n images are not
 unfoldable pub absent : (n set : ℕ) → ℕ
 absent zero set = 0
 absent (suc n) set = absent n set + cond (inSet set n) 0 1
@@ -27,7 +26,7 @@ absent (suc n) set = absent n set + cond (inSet set n) 0 1
 abbrev pub NoneFrom : (n set : ℕ) → Type 0
 NoneFrom n set = (j : ℕ) → n ≤ j → inSet set j ≡ false
 
---     joins        "it joins the set": Commit adds its image and no other
+--     joins        Commit adds its image and no other
 --     lacks        the count that 27 tells is that of the images which are not in the set
 --     whole        it is 0 exactly if every image is in the set
 --     low, high    the test of 24: a set is below 2 to the power of n exactly if it has no bit at or past n

@@ -1,5 +1,5 @@
-// The set of committed images (document 01, "Session and calls"): whether a Staging session's bank and set fit a record
-// (24), and how many images the set lacks (27).
+// The set of committed images (S1): whether a Staging session's bank and set fit a record (N24), and how many images
+// the set lacks (N27).
 use record_layout::INVALID;
 use record_layout::image_count;
 use record_layout::state;
@@ -11,7 +11,7 @@ ghost use Rattle.record_layout.specs.Layout.{imageCount};
 ghost use Rattle.record_layout.specs.Rules.{sound};
 ghost use Rattle.update_committed_set.specs.Set.{setBits, joined, missing, stagedFits};
 
-// "a 32-bit set of committed images".
+// How many bits a set has.
 const SET_BITS: u32 = 32;
 
 // Whether a Staging session is free of 24. The bank is looked up only where it is the update bank: a session may name
@@ -40,7 +40,7 @@ pub fn with_image(set: u32, i: usize) -> u32
     set | (1u32 << (i as u32))
 }
 
-// How many images are not in the set: "image count minus the committed set's count of ones".
+// How many images are not in the set: the image count less its count of ones.
 pub fn missing_images(r: &[u8], set: u32) -> u32
     requires { ⌜ (sound (now r) ≡ true) × (set < 2 ^ imageCount (now r)) ⌝ }
     ensures { λ n. ⌜ n ≡ missing set (now (r .entry)) ⌝ }

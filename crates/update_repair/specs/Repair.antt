@@ -1,7 +1,6 @@
--- What repair answers and lists (document 01, "Session and calls": "Repair gives such a list too: none if the copies
--- are sound and equal, else the record read goes into the other copy."). Its stores are `repairStores` of
--- crates/record_store_lists/specs/ChangeStores.antt; what must hold of them is said in crates/proof_power_cuts/specs. a is the bytes
--- of the area, s the numbers of the store slice. Assumes nothing.
+-- What repair answers and lists (R27). Its stores are `repairStores` of
+-- crates/record_store_lists/specs/ChangeStores.antt; what must hold of them is said in crates/proof_power_cuts/specs. a
+-- is the bytes of the area, s the numbers of the store slice. Assumes nothing.
 use Prim.Native.Nat.{ℕ}
 use mathlib.Core.List.{List}
 use lib.ListN.{length}

@@ -1,5 +1,4 @@
-// Repair (document 01, "Session and calls"): the stores that put the record read into the other copy. Refusals 20,
-// 23, 21.
+// Repair (R27): the stores that put the record read into the other copy. Refusals 20, 23, 21.
 use record_copies::Source;
 use record_copies::read_source;
 use record_layout::AREA;

@@ -13,7 +13,7 @@ use Rattle.record_layout.specs.Rules.{soundCopy}
 use Rattle.record_copies.specs.Copies.{recordsEqual, soundAndEqual}
 use Rattle.record_stores.specs.Stores.{storeNumbers}
 use Rattle.record_stores.proofs.Laid.{withList-none}
-use Rattle.record_store_lists.specs.Lists.{Changeable}
+use Rattle.record_store_lists.specs.Lists.{Changeable, AtFront}
 use Rattle.record_store_lists.specs.ChangeStores.{copyStores, changeStores}
 use Rattle.update_committed_set.specs.Set.{stagedFits}
 use Rattle.update_committed_set.proofs.Fits.{set-below}
@@ -23,7 +23,7 @@ use Rattle.refusal_order.specs.Decide.{passed, refused, decisionOf, decide}
 use Rattle.refusal_order.proofs.Decide.{refused-before, passed-before, passed-first, no-fault}
 use Rattle.update_session.specs.declared.Session.{Session}
 use Rattle.update_session.specs.declared.Session.the-variants.{Staging}
-use Rattle.update_session.specs.Outcome.{refusedWith, passedWith}
+use Rattle.update_session.specs.Outcome.{Outcome, refusedWith, passedWith}
 use Rattle.update_changes.specs.Changed.{Call}
 use Rattle.update_admission.specs.Rows.{repairTests, areaTests}
 use Rattle.update_session.specs.Calls.{Result, held, stagingTest, commonTests, ownTests, tests, transition, changedTo, following, answered}
@@ -78,6 +78,12 @@ module _ (k : Call) (q : Session) (a s : List ℕ) where
       → x ≡ changedTo to a s → x ≡ answered k q a s
   unfolding answered following tests
   accepted-own x to e o t h = rw (← passed-before (commonTests q a (length s)) (ownTests k q (held a)) _ e o, ← t) h
+
+-- the stores of a change are listed
+pub listed : (o : Outcome) (next : Session) (a s z made new : List ℕ) (n : ℕ) → o ≡ passedWith next n → made ≡ new → AtFront n (changeStores a made) s z
+    → (o, z) ≡ changedTo (next, new) a s
+unfolding changedTo
+listed o next a s z made new n p e l = rw (p, l .count, l .lists, e)
 
 -- Cancel: a new record that is the old one takes no stores
 equal-records : (a : List ℕ) → soundAndEqual a ≡ true → recordOf (copy1 a) ≡ recordOf (copy0 a)

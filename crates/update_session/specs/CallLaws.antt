@@ -1,6 +1,5 @@
--- End's own test, image by image (document 01, "Session and calls": "every image must be in the set; a refusal tells
--- how many are missing"): what the count of ones in it means (`call-laws`, proofs/CallLaws.antt). The laws of the set
--- itself are in crates/update_committed_set/specs/SetLaws.antt. Assumes nothing.
+-- End's own test, image by image (S9, N27): what the count of ones in it means (`call-laws`, proofs/CallLaws.antt). The
+-- laws of the set itself are in crates/update_committed_set/specs/SetLaws.antt. Assumes nothing.
 use Prim.Native.Nat.{ℕ}
 use mathlib.Core.Path.{_≡_}
 use mathlib.Core.Bool.{not}

@@ -1,7 +1,6 @@
--- What each of the six calls answers and lists (document 01, "Session and calls" and "When the bench says no"): the
--- tests of a call in their order, and what it leads to where none finds a fault. q is the session given, a the bytes of
--- the area, s the numbers of the store slice, g the bytes of a type GUID, r those of the record that both copies hold.
--- Assumes nothing.
+-- What each of the six calls answers and lists (S5 to S18, N24 to N27): the tests of a call in their order, and what it
+-- leads to where none finds a fault. q is the session given, a the bytes of the area, s the numbers of the store slice,
+-- g the bytes of a type GUID, r those of the record that both copies hold. Assumes nothing.
 use Prim.Native.Nat.{ℕ}
 use mathlib.Core.Bool.{cond, not, _&&_}
 use mathlib.Core.List.{List, [], _∷_, _++_}
@@ -22,38 +21,37 @@ use Rattle.update_session.specs.declared.Session.the-variants.{Regular, 
 use Rattle.update_session.specs.Outcome.{Outcome, passedWith}
 use Rattle.update_session.specs.Sessions.{staging, kindOf, bankOf, setOf, among, namedFor}
 
--- "all other calls need two equal ones": the record that both copies hold. Looked at once 22 is past, so that it is
--- that of copy 0 and of copy 1
+-- the record that both copies hold (S3). Looked at once 22 is past, so that it is that of copy 0 and of copy 1
 abbrev pub held : List ℕ → List ℕ
 held a = recordOf (copy0 a)
 
--- ---- the rows of the table that look at the session and the record
--- 24: "Staging whose bank isn't the update bank or isn't 255, or a set bit at or past the image count", of any session given to any call
+-- ---- the tests that look at the session and the record
+-- N24, of any call: a Staging session that doesn't fit the record
 abbrev pub stagingTest : Session → (r : List ℕ) → Test
 stagingTest q r = (among (kindOf q) (staging ∷ []) && not (stagedFits (bankOf q) (setOf q) r), StagingFault)
 
--- 25: "session not among those named for the call"
+-- N25: the call isn't for that session
 abbrev pub sessionTest : Call → Session → Test
 sessionTest k q = (not (among (kindOf q) (namedFor k)), SessionState)
 
--- 25: "or Select previous whose previous bank isn't 252"
+-- N25, of Select previous: the previous bank isn't 252
 abbrev pub previousTest : (r : List ℕ) → Test
 previousTest r = (not (eqb (state r (previous r)) acceptedBank), SessionState)
 
--- 26: "GUID in no entry"
+-- N26: no entry has that type GUID
 abbrev pub imageTest : (g r : List ℕ) → Test
 imageTest g r = (leb (imageCount r) (imageWith g r), NoImage)
 
--- 27: "images missing", "27 also the count"
+-- N27: images are missing from the set, and how many
 abbrev pub missingTest : Session → (r : List ℕ) → Test
 missingTest q r = (not (eqb (missing (setOf q) r) 0), ImagesMissing (missing (setOf q) r))
 
--- ---- the tests of a call: "with areas 20, 23, 21, 22, then 24 to 28, each where it applies"
+-- ---- the tests of a call (N110)
 -- of every call, whatever session it names: 20, 23, 21, 22, 24
 unfoldable pub commonTests : Session → (a : List ℕ) (sliceLength : ℕ) → List Test
 commonTests q a sliceLength = areaTests a sliceLength ++ (stagingTest q (held a) ∷ [])
 
--- of its own: 25, and what its line asks beside
+-- of its own: 25, and what it asks beside
 abbrev pub callTests : Call → Session → (r : List ℕ) → List Test
 callTests begin q r = []
 callTests (commit g request) q r = imageTest g r ∷ []
@@ -70,8 +68,7 @@ unfoldable pub tests : Call → Session → (a : List ℕ) (sliceLength : ℕ) �
 tests k q a sliceLength = commonTests q a sliceLength ++ ownTests k q (held a)
 
 -- ---- what an accepted call leads to
--- "when all are, .. the session Regular"; and where the image was accepted already, "the next session is still Regular if all are
--- accepted, else Trial"
+-- Regular when all images are accepted, else Trial; also where the image was accepted already (S13, S14)
 unfoldable pub afterAccept : ℕ → (r : List ℕ) → Session
 afterAccept i r = cond (completes i r) Regular Trial
 
@@ -92,12 +89,12 @@ transition k q r = (nextSession k q r, newRecord k r)
 abbrev pub Result : Type 0
 Result = Outcome × List ℕ
 
--- "An accepted call answers the next session and a list of stores": those that put the new record into both copies.
--- What must hold of the list is said in crates/proof_power_cuts/specs
+-- the next session, and the stores that put the new record into both copies (S17). What must hold of the list is said
+-- in crates/proof_power_cuts/specs
 unfoldable pub changedTo : Session × List ℕ → (a s : List ℕ) → Result
 changedTo to a s = (passedWith (to .0) (length (changeStores a (to .1))), withList s (changeStores a (to .1)))
 
--- "A refusal gives the number (..; 27 also the count), the session as it was .., no .. list, .. and no byte altered."
+-- a refusal: its number and what it tells, the session as it was, no list and no number altered (N105 to N107)
 unfoldable pub following : Decision → Session → (s : List ℕ) → (ifPassed : Result) → Result
 following passed q s ifPassed = ifPassed
 following (refusal number values) q s ifPassed = ((q, refusal number values, 0), s)

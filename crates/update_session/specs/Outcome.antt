@@ -1,6 +1,5 @@
--- What the answer to a call states (document 01, "Session and calls" and "When the bench says no"): the session, the
--- refusal's number if there is one and what it tells beside, and how many pairs (offset, word) stand in the store list.
--- Assumes nothing.
+-- What the answer to a call states (S17, N105 to N107): the session, the refusal's number if there is one and what it
+-- tells beside, and how many pairs (offset, word) stand in the store list. Assumes nothing.
 use Prim.Native.Nat.{ℕ}
 use Rattle.refusals.specs.declared.Refusal.{Refusal}
 use Rattle.refusal_order.specs.Decide.{Decision, passed, refused, decisionOf}
@@ -13,10 +12,10 @@ Outcome = Session × Decision × ℕ
 abbrev pub outcomeOf : Answer → Outcome
 outcomeOf a = (a .session, decisionOf (a .verdict), a .stores)
 
--- "A refusal gives the number .., the session as it was where one was given, no place or list"
+-- refused: the session as it was, and no list
 abbrev pub refusedWith : Session → Refusal → Outcome
 refusedWith s r = (s, refused r, 0)
 
--- "An accepted call answers the next session and a list of stores"
+-- passed: the next session, and how many pairs are listed
 abbrev pub passedWith : Session → ℕ → Outcome
 passedWith s n = (s, passed, n)

@@ -1,5 +1,4 @@
--- The five sessions by their kind, and what Staging carries (document 01, "Session and calls"); the sessions that each
--- call names. Assumes nothing.
+-- The five sessions by their kind, and what Staging carries (S1); the sessions that each call is for. Assumes nothing.
 use Prim.Native.Nat.{ℕ}
 use mathlib.Core.Bool.{Bool, false, _||_}
 use mathlib.Core.List.{List, [], _∷_}
@@ -8,7 +7,7 @@ use Rattle.update_changes.specs.Changed.{Call, begin, commit, end, cancel, acce
 use Rattle.update_session.specs.declared.Session.{Session}
 use Rattle.update_session.specs.declared.Session.the-variants.{Regular, Staging, Trial, Fallback, Restart}
 
--- "Five session states: Regular, Staging, Trial, Fallback, Restart.", numbered in that order
+-- the five states, numbered in the order of S1
 abbrev pub regular : ℕ
 regular = 0
 
@@ -31,8 +30,7 @@ kindOf Trial = trial
 kindOf Fallback = fallback
 kindOf Restart = restart
 
--- "Staging carries its bank and a 32-bit set of committed images"; of any other session both are 0, and
--- no test that reads them decides
+-- the bank and the set of Staging; of any other session both are 0, and no test that reads them decides
 abbrev pub bankOf : Session → ℕ
 bankOf (Staging bank set) = bank
 bankOf Regular = 0
@@ -52,8 +50,7 @@ abbrev pub among : ℕ → List ℕ → Bool
 among k [] = false
 among k (x ∷ xs) = eqb k x || among k xs
 
--- "Begin (Regular, Staging)", "Commit (Staging)", "End (Staging)", "Cancel (Staging)", "Accept (Trial)", "Select
--- previous (Trial, Fallback)"
+-- the sessions that a call is for (S5, S7, S9, S11, S12, S15)
 abbrev pub namedFor : Call → List ℕ
 namedFor begin = regular ∷ staging ∷ []
 namedFor (commit g request) = staging ∷ []

@@ -1,6 +1,6 @@
-// The session, the answer of the calls, and the six calls (document 01, "Session and calls"). Each call tests in the
-// order of "When the bench says no": what is tested for every session first, once and before the call looks at which
-// session it is, then its own; a refusal hands the session back as it was, with no list.
+// The session, the answer of the calls, and the six calls (S1, S5 to S18). Each call tests in the order of N110: what
+// is tested for every session first, once and before the call looks at which session it is, then its own; a refusal
+// hands the session back as it was, with no list.
 use record_copies::held_record;
 use record_layout::image_count;
 use record_store_lists::list_change;
@@ -27,8 +27,7 @@ ghost use Rattle.refusal_order.specs.Decide.{decide, decisionOf};
 ghost use Rattle.update_session.specs.Outcome.{outcomeOf, refusedWith, passedWith};
 ghost use Rattle.update_session.specs.Calls.{commonTests, held, afterAccept, changedTo, answered};
 
-// "Five session states: Regular, Staging, Trial, Fallback, Restart. Staging carries its bank and a 32-bit set of
-// committed images."
+// The five session states; Staging with its bank and the set of committed images (S1).
 pub enum Session {
     Regular,
     Staging { bank: u32, set: u32 },
@@ -108,8 +107,8 @@ impl Session {
         Verdict::Passed
     }
 
-    // "Begin (Regular, Staging)". Lists in `out` the stores of the change: pairs of an offset and a word, to be done in
-    // list order. Numbers past the list stay, and on a refusal every number does. So with each call.
+    // Begin, for Regular and Staging (S5, S6). Lists in `out` the stores of the change: pairs of an offset and a word,
+    // to be done in list order. Numbers past the list stay, and on a refusal every number does. So with each call.
     pub fn begin(self, area: &[u8], out: &mut [u32]) -> Answer
         ensures { λ r. ⌜ (outcomeOf r, now (out .exit)) ≡ answered begin self (now (area .entry)) (now (out .entry)) ⌝ }
     {
@@ -128,7 +127,7 @@ impl Session {
         }
     }
 
-    // "Commit (Staging), by type GUID and a request".
+    // Commit, for Staging, of the image with that type GUID (S7, S8).
     pub fn commit(self, area: &[u8], guid: [u8; 16], request: u32, out: &mut [u32]) -> Answer
         ensures { λ r. ⌜ (outcomeOf r, now (out .exit)) ≡ answered (commit guid request) self (now (area .entry)) (now (out .entry)) ⌝ }
     {
@@ -153,7 +152,7 @@ impl Session {
         )
     }
 
-    // "End (Staging)".
+    // End, for Staging (S9, S10).
     pub fn end(self, area: &[u8], out: &mut [u32]) -> Answer
         ensures { λ r. ⌜ (outcomeOf r, now (out .exit)) ≡ answered end self (now (area .entry)) (now (out .entry)) ⌝ }
     {
@@ -171,7 +170,7 @@ impl Session {
         changed(Session::Restart, area, Change::End, out)
     }
 
-    // "Cancel (Staging)": "Cancel itself changes nothing in the record", so nothing is listed.
+    // Cancel, for Staging: it changes nothing in the record, so nothing is listed (S11).
     pub fn cancel(self, area: &[u8], out: &mut [u32]) -> Answer
         ensures { λ r. ⌜ (outcomeOf r, now (out .exit)) ≡ answered cancel self (now (area .entry)) (now (out .entry)) ⌝ }
     {
@@ -185,7 +184,7 @@ impl Session {
         Answer::passed(Session::Regular, 0)
     }
 
-    // "Accept (Trial)", by type GUID.
+    // Accept, for Trial, of the image with that type GUID (S12 to S14).
     pub fn accept(self, area: &[u8], guid: [u8; 16], out: &mut [u32]) -> Answer
         ensures { λ r. ⌜ (outcomeOf r, now (out .exit)) ≡ answered (accept guid) self (now (area .entry)) (now (out .entry)) ⌝ }
     {
@@ -205,7 +204,7 @@ impl Session {
         changed(next, area, Change::Accept { image }, out)
     }
 
-    // "Select previous (Trial, Fallback)".
+    // Select previous, for Trial and Fallback (S15, S16).
     pub fn select_previous(self, area: &[u8], out: &mut [u32]) -> Answer
         ensures { λ r. ⌜ (outcomeOf r, now (out .exit)) ≡ answered selectPrevious self (now (area .entry)) (now (out .entry)) ⌝ }
     {

@@ -1,5 +1,5 @@
--- What start-up answers (document 01, "Session and calls": "Start-up is given the bank that booted"): the session, or a
--- refusal and no session. a is the bytes of the area, r those of the record read. Assumes nothing.
+-- What start-up answers (S2, S3, N28): the session, or a refusal and no session. a is the bytes of the area, r those of
+-- the record read. Assumes nothing.
 use Prim.Native.Nat.{ℕ}
 use mathlib.Core.Bool.{cond}
 use mathlib.Core.List.{List, [], _∷_, _++_}
@@ -20,15 +20,15 @@ abbrev pub startReply : Started → Reply Session
 startReply (In q) = gives q
 startReply (Refused r) = refusing r
 
--- "Fallback if it isn't the active one, else Regular if the active bank is 252, else Trial."
+-- the session, by the booted bank and the active one's state (S2)
 unfoldable pub startedSession : List ℕ → ℕ → Session
 startedSession r booted = cond (eqb booted (active r)) (cond (eqb (state r (active r)) acceptedBank) Regular Trial) Fallback
 
--- 28: "booted bank at or past the bank count"
+-- N28: the booted bank is at or past the bank count
 abbrev pub bootedTest : (r : List ℕ) (booted : ℕ) → Test
 bootedTest r booted = (leb (bankCount r) booted, BootedBank)
 
--- what a record that is read gives: "the session, or refusal 28"
+-- what a record that is read gives: the session, or 28
 unfoldable pub startedFrom : List ℕ → ℕ → Reply Session
 startedFrom r booted = reply (decide (bootedTest r booted ∷ [])) (startedSession r booted)
 

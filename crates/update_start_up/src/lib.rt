@@ -1,4 +1,4 @@
-// Start-up (document 01, "Session and calls"): the session that an area and the booted bank give. Refusals 20, 21, 28.
+// Start-up (S2): the session that an area and the booted bank give. Refusals 20, 21, 28.
 use record_copies::Source;
 use record_copies::read_record;
 use record_copies::read_source;

@@ -1,15 +1,18 @@
-//! The library against the second implementation, one input of one entry at a time: the answer, every byte and number lent, and
-//! of a list of stores what document 01 asks. Whatever differs is a panic that names it. The inputs are the recipes of
-//! second/GENERATORS.md.
+//! The library against the second implementation, one input of one entry at a time: the answer, every byte and number
+//! lent, and of a list of stores what the rules ask. Whatever differs is a panic that names it. The inputs are the
+//! recipes of second/GENERATORS.md.
 #![allow(dead_code)]
 
-use meanderpeg::{capsule, Answer, Refusal, Session, Store};
+use meanderpeg::{
+    Acceptance, Answer, BankIndex, Capsule, Guid, ItemKind, Refusal, Refused, Session, SessionState, Store,
+};
 use second::answers::call_answer;
 use second::digest::Tally;
 use second::inputs::{call_input, capsule_input, gather_input, CallInput};
 use second::record::{self, both_sound_and_equal, record_read};
 use second::session as plain;
 use second::stores::{apply, bad_cut, bad_repair_cut, offsets_good};
+use std::convert::Infallible;
 
 /// The entries, by name.
 pub const ENTRIES: [&str; 12] = [
@@ -24,7 +27,7 @@ pub const ENTRIES: [&str; 12] = [
     "accept",
     "select_previous",
     "soundness",
-    "sheet",
+    "report",
 ];
 
 /// Lists of at most so many pairs are cut after every store; of longer ones every 40th.
@@ -38,7 +41,7 @@ pub fn compare(entry: &str, seed: u64, k: u64, tally: &mut Tally) {
         "start_up" => compare_start_up(seed, k, tally),
         "repair" => compare_repair(seed, k, tally),
         "soundness" => compare_soundness(seed, k, tally),
-        "sheet" => compare_sheet(seed, k, tally),
+        "report" => compare_report(seed, k, tally),
         name => {
             let place = ENTRIES.iter().position(|&e| e == name).expect("an entry's name");
             compare_call(name, place as u64 - 2, seed, k, tally);
@@ -54,15 +57,20 @@ fn compare_gather(seed: u64, k: u64, tally: &mut Tally) {
     let length = input.window.len();
     let mut memory = vec![0x5A; length + 2 * MARGIN];
     memory[MARGIN..MARGIN + length].copy_from_slice(&input.window);
-    let found = meanderpeg::gather(&mut memory[MARGIN..MARGIN + length], input.base, input.first);
-    let wanted = second::gather::gather(&mut input.window, input.base, input.first);
-    assert_eq!(found.map(|g| (g.address, g.total)).map_err(Refusal::number), wanted, "gather {seed} {k}");
+    let gathered = meanderpeg::gather(&mut memory[MARGIN..MARGIN + length], input.base, input.first);
+    let found = gathered.map(|g| (g.address(), g.bytes().to_vec(), g.range()));
+    let wanted = second::gather::gather(&mut input.window, input.base, input.first).map(|(address, total)| {
+        let start = (address - input.base) as usize;
+        let range = start..start + total as usize;
+        (address, input.window[range.clone()].to_vec(), range)
+    });
+    assert_eq!(found.map_err(Refusal::number), wanted, "gather {seed} {k}");
     assert!(memory[MARGIN..MARGIN + length] == input.window, "gather {seed} {k}: the window");
     let margins = memory[..MARGIN].iter().chain(&memory[MARGIN + length..]);
     assert!(margins.into_iter().all(|&byte| byte == 0x5A), "gather {seed} {k}: bytes around the window");
     match wanted {
         Err(number) => tally.add(&format!("refusal {number}")),
-        Ok((place, _)) if place == input.base => tally.add("accepted, at the window's start"),
+        Ok((place, ..)) if place == input.base => tally.add("accepted, at the window's start"),
         Ok(_) => tally.add("accepted, further up"),
     }
 }
@@ -76,70 +84,70 @@ fn compare_capsule(seed: u64, k: u64, tally: &mut Tally) {
     let input = capsule_input(seed, k);
     let (given, item) = (&input.capsule[..], input.item as usize);
     let before = input.capsule.clone();
+    let name = format!("capsule {seed} {k}");
     let number = second::capsule::refusal(given, input.item);
-    assert_eq!(capsule::refusal(given, item).map_or(0, Refusal::number), number, "capsule {seed} {k}");
-    let drivers = compare_shown(given, item, &format!("capsule {seed} {k}"));
+    let found = Capsule::check(given).map(|capsule| {
+        let (drivers, payloads) = second::capsule::counts(given);
+        let wanted = (drivers as usize, payloads as usize);
+        assert_eq!((capsule.drivers(), capsule.payloads()), wanted, "{name}: the counts");
+        assert_eq!((capsule.count(), capsule.bytes()), (wanted.0 + wanted.1, given), "{name}: the capsule");
+        capsule.item(item)
+    });
+    if number != 0 {
+        // The capsule's own refusals are the check's, 16 is the item's.
+        let refused = if number < 16 { found.err() } else { found.ok().and_then(Result::err) };
+        assert_eq!(refused.map(Refusal::number), Some(number), "{name}");
+        tally.add(&format!("refusal {number}"));
+    } else {
+        let found = found.expect("a good capsule").expect("a good item");
+        compare_item(given, &found, &name, tally);
+    }
+    assert!(input.capsule == before, "{name}: the capsule");
+}
+
+/// Every part of an item that was not refused.
+fn compare_item(given: &[u8], found: &meanderpeg::Item, name: &str, tally: &mut Tally) {
+    let item = found.number() as u64;
     let parts = [
-        (capsule::item(given, item), second::capsule::item(given, input.item)),
-        (capsule::image(given, item), second::capsule::image(given, input.item)),
-        (capsule::vendor_code(given, item), second::capsule::vendor_code(given, input.item)),
+        (found.bytes(), second::capsule::item(given, item)),
+        (found.image(), second::capsule::image(given, item)),
+        (found.vendor_code(), second::capsule::vendor_code(given, item)),
     ];
     for (found, wanted) in parts {
-        assert_eq!(place_of(given, found), wanted, "capsule {seed} {k}: a part's place");
-        let (from, to) = (wanted.0 as usize, (wanted.0 + wanted.1) as usize);
-        assert!(*found == before[from..to], "capsule {seed} {k}: a part's bytes");
+        assert_eq!(place_of(given, found), wanted, "{name}: a part's place");
     }
-    assert!(input.capsule == before, "capsule {seed} {k}: the capsule");
+    let shown = (found.type_guid().to_bytes(), found.image_index(), found.hardware_instance());
+    assert_eq!(shown, second::capsule::shown(given, item), "{name}: what is shown");
+    let driver = item < second::capsule::counts(given).0 as u64;
+    assert_eq!(found.kind() == ItemKind::Driver, driver, "{name}: the kind");
     let head = parts[1].1 .0 - parts[0].1 .0;
-    match (number, item < drivers, head) {
-        (0, true, _) => tally.add("accepted, driver"),
-        (0, false, 32) => tally.add("accepted, payload version 1"),
-        (0, false, _) => tally.add("accepted, payload version 2"),
-        _ => tally.add(&format!("refusal {number}")),
-    }
+    tally.add(match (driver, head) {
+        (true, _) => "accepted, driver",
+        (false, 32) => "accepted, payload version 1",
+        (false, _) => "accepted, payload version 2",
+    });
 }
 
-/// What is shown of an item, and the counts. Answers the count of drivers.
-fn compare_shown(given: &[u8], item: usize, name: &str) -> usize {
-    let found =
-        (capsule::type_guid(given, item), capsule::image_index(given, item), capsule::hardware_instance(given, item));
-    assert_eq!(found, second::capsule::shown(given, item as u64), "{name}: what is shown");
-    let (drivers, payloads) = second::capsule::counts(given);
-    let wanted = (drivers as usize, payloads as usize);
-    assert_eq!((capsule::drivers(given), capsule::payloads(given)), wanted, "{name}: the counts");
-    wanted.0
-}
-
-/// The second implementation's session as this package has it, and back.
-pub fn session_of(session: plain::Session) -> Session {
+/// The second implementation's session as this package has it.
+pub fn state_of(session: plain::Session) -> SessionState {
     match session {
-        plain::Session::Regular => Session::Regular,
-        plain::Session::Staging { bank, set } => Session::Staging { bank, set },
-        plain::Session::Trial => Session::Trial,
-        plain::Session::Fallback => Session::Fallback,
-        plain::Session::Restart => Session::Restart,
-    }
-}
-
-fn name_of(session: Session) -> &'static str {
-    match session {
-        Session::Regular => "Regular",
-        Session::Staging { .. } => "Staging",
-        Session::Trial => "Trial",
-        Session::Fallback => "Fallback",
-        Session::Restart => "Restart",
+        plain::Session::Regular => SessionState::Regular,
+        plain::Session::Staging { bank, set } => SessionState::Staging { bank: BankIndex::new(bank), set },
+        plain::Session::Trial => SessionState::Trial,
+        plain::Session::Fallback => SessionState::Fallback,
+        plain::Session::Restart => SessionState::Restart,
     }
 }
 
 fn compare_start_up(seed: u64, k: u64, tally: &mut Tally) {
     let input = call_input(0, seed, k);
     let wanted = plain::start_up(&input.area, input.booted);
-    let found = meanderpeg::start_up(&input.area, input.booted);
+    let found = meanderpeg::start_up(&input.area, BankIndex::new(input.booted));
     assert!(input.area == wanted.area, "start_up {seed} {k}: the area");
     match found {
         Ok(session) => {
-            assert_eq!((0, session_of(wanted.session)), (wanted.refusal, session), "start_up {seed} {k}");
-            tally.add(&format!("accepted, {}", name_of(session)));
+            assert_eq!((0, state_of(wanted.session)), (wanted.refusal, session.state()), "start_up {seed} {k}");
+            tally.add(&format!("accepted, {}", session.state()));
         }
         Err(refusal) => {
             assert_eq!(refusal.number(), wanted.refusal, "start_up {seed} {k}");
@@ -168,14 +176,14 @@ impl Lent {
         &mut self.numbers[..self.length]
     }
 
-    /// "Numbers past the list stay."
+    /// Whether the numbers past the list stayed.
     fn stayed_past(&self, pairs: usize) -> bool {
         self.numbers[2 * pairs..] == self.before[2 * pairs..]
     }
 }
 
 pub fn pairs_of(stores: &[Store]) -> Vec<(u32, u32)> {
-    stores.iter().map(|store| (store.offset, store.word)).collect()
+    stores.iter().map(|store| (store.offset() as u32, store.word())).collect()
 }
 
 /// Whether the cuts of this list are all tried.
@@ -188,15 +196,21 @@ fn compare_repair(seed: u64, k: u64, tally: &mut Tally) {
     let before = input.area.clone();
     let wanted = plain::repair(&input.area, input.slice_len);
     let mut lent = Lent::new(input.slice_len, k);
-    let found = meanderpeg::repair(&input.area, lent.slice()).map(pairs_of);
-    let pairs = found.clone().unwrap_or_default();
-    assert_eq!(found.err().map_or(0, Refusal::number), wanted.refusal, "repair {seed} {k}");
+    let found = meanderpeg::repair(&input.area, lent.slice()).map(|repair| {
+        let pairs = pairs_of(repair.stores());
+        let mut after = input.area.clone();
+        repair.perform_in(&mut after).expect("an area of the same length");
+        assert!(after == apply(&input.area, &pairs), "repair {seed} {k}: the stores performed");
+        pairs
+    });
+    assert_eq!(found.as_ref().err().map_or(0, |refusal| refusal.number()), wanted.refusal, "repair {seed} {k}");
+    let pairs = found.unwrap_or_default();
     assert!(lent.stayed_past(pairs.len()), "repair {seed} {k}: numbers past the list");
     assert!(input.area == before, "repair {seed} {k}: the area");
     judge_repair(&input.area, &pairs, &wanted, &format!("repair {seed} {k}"), is_cut(pairs.len(), k), tally);
 }
 
-/// What document 01 asks of a repair's list.
+/// What the rules ask of a repair's list.
 fn judge_repair(area: &[u8], pairs: &[(u32, u32)], wanted: &plain::Answer, name: &str, cut: bool, tally: &mut Tally) {
     let Some(read) = &wanted.record else {
         tally.add(&format!("refusal {}", wanted.refusal));
@@ -219,17 +233,42 @@ fn judge_repair(area: &[u8], pairs: &[(u32, u32)], wanted: &plain::Answer, name:
 }
 
 /// Asks the library what it answers to the call.
-pub fn answer_of<'a>(call: u64, input: &CallInput, numbers: &'a mut [u32]) -> Answer<'a> {
-    let session = session_of(input.session);
+pub fn answer_of<'a>(call: u64, input: &CallInput, numbers: &'a mut [u32]) -> Result<Answer<'a>, Refused> {
+    let (session, guid) = (Session::resume(state_of(input.session)), Guid::from_bytes(input.guid));
+    let acceptance = if input.request == 0 { Acceptance::Accepted } else { Acceptance::Unaccepted };
     match call {
         2 => session.begin(&input.area, numbers),
-        3 => session.commit(&input.area, &input.guid, input.request, numbers),
+        3 => session.commit(&input.area, guid, acceptance, numbers),
         4 => session.end(&input.area, numbers),
         5 => session.cancel(&input.area, numbers),
-        6 => session.accept(&input.area, &input.guid, numbers),
+        6 => session.accept(&input.area, guid, numbers),
         7 => session.select_previous(&input.area, numbers),
         other => panic!("call {other}"),
     }
+}
+
+/// The stores that a call lists; none if it is refused.
+pub fn listed(call: u64, input: &CallInput, numbers: &mut [u32]) -> Vec<(u32, u32)> {
+    answer_of(call, input, numbers).map_or(vec![], |answer| pairs_of(answer.stores()))
+}
+
+/// Performs the answer's stores in a copy of the area, in one of the three ways, and answers the copy and the next
+/// session.
+fn performed(answer: Answer, area: &[u8], k: u64) -> (Vec<u8>, Session) {
+    let mut after = area.to_vec();
+    let mut write = |offset: usize, word: u32| after[offset..offset + 4].copy_from_slice(&word.to_le_bytes());
+    let session = match k % 3 {
+        0 => answer.perform(write),
+        1 => {
+            let landed = answer.try_perform(|offset, word| {
+                write(offset, word);
+                Ok::<(), Infallible>(())
+            });
+            landed.expect("no failure")
+        }
+        _ => answer.perform_in(&mut after).expect("an area of the same length"),
+    };
+    (after, session)
 }
 
 fn compare_call(entry: &str, call: u64, seed: u64, k: u64, tally: &mut Tally) {
@@ -238,11 +277,19 @@ fn compare_call(entry: &str, call: u64, seed: u64, k: u64, tally: &mut Tally) {
     let before = input.area.clone();
     let wanted = call_answer(call, &input);
     let mut lent = Lent::new(input.slice_len, k);
-    let answer = answer_of(call, &input, lent.slice());
-    let (refusal, session, pairs) = (answer.refusal, answer.session, pairs_of(answer.stores));
+    let (refusal, session, pairs) = match answer_of(call, &input, lent.slice()) {
+        Err(refused) => (Some(refused.refusal), refused.session, vec![]),
+        Ok(answer) => {
+            let (pairs, next) = (pairs_of(answer.stores()), answer.next_state());
+            let (after, session) = performed(answer, &input.area, k);
+            assert!(after == apply(&input.area, &pairs), "{name}: the stores performed");
+            assert_eq!(session.state(), next, "{name}: the next session");
+            (None, session, pairs)
+        }
+    };
     let missing = if let Some(Refusal::ImagesMissing(count)) = refusal { count } else { 0 };
-    let found = (refusal.map_or(0, Refusal::number), missing, session);
-    assert_eq!(found, (wanted.refusal, wanted.missing, session_of(wanted.session)), "{name}");
+    let found = (refusal.map_or(0, Refusal::number), missing, session.state());
+    assert_eq!(found, (wanted.refusal, wanted.missing, state_of(wanted.session)), "{name}");
     assert!(lent.stayed_past(pairs.len()), "{name}: numbers past the list");
     assert!(input.area == before, "{name}: the area");
     let Some(new) = &wanted.record else {
@@ -252,7 +299,7 @@ fn compare_call(entry: &str, call: u64, seed: u64, k: u64, tally: &mut Tally) {
     };
     judge_change(&input.area, &pairs, &wanted, &name, is_cut(pairs.len(), k), tally);
     let altered = if wanted.area == input.area { "as it was" } else { "altered" };
-    tally.add(&format!("accepted, {} to {}, {}", name_of(session_of(input.session)), name_of(session), altered));
+    tally.add(&format!("accepted, {} to {}, {}", state_of(input.session), session.state(), altered));
     if entry == "cancel" {
         assert!(pairs.is_empty(), "{name}: Cancel lists no store");
     }
@@ -265,7 +312,7 @@ fn compare_call(entry: &str, call: u64, seed: u64, k: u64, tally: &mut Tally) {
     }
 }
 
-/// What document 01 asks of a change's list: offsets, the area after all stores and, if it is cut, demand 3 at every cut.
+/// What the rules ask of a change's list: offsets, the area after all stores and, if it is cut, what every cut leaves.
 fn judge_change(area: &[u8], pairs: &[(u32, u32)], wanted: &plain::Answer, name: &str, cut: bool, tally: &mut Tally) {
     let old = record_read(area).expect("a sound copy").1;
     let new = wanted.record.as_ref().expect("the new record");
@@ -294,20 +341,20 @@ fn compare_soundness(seed: u64, k: u64, tally: &mut Tally) {
     tally.add(&format!("sound {} {}, equal {}", wanted.0, wanted.1, wanted.2));
 }
 
-fn compare_sheet(seed: u64, k: u64, tally: &mut Tally) {
+fn compare_report(seed: u64, k: u64, tally: &mut Tally) {
     let area = call_input(0, seed, k).area;
-    let wanted = second::sheet::sheet(&area);
+    let wanted = second::report::report(&area);
     let length = [4_096, 4_097, 4_095, 5_000, 4_096, 0, 4_096, 4_096][(k / 24 % 8) as usize];
     let mut text = vec![0xEE; length + MARGIN];
-    let found = meanderpeg::sheet(&area, &mut text[..length]);
+    let found = meanderpeg::report(&area, &mut text[..length]);
     if length < 4_096 {
-        assert_eq!(found, None, "sheet {seed} {k}");
-        assert!(text.iter().all(|&byte| byte == 0xEE), "sheet {seed} {k}: a slice too short");
+        assert_eq!(found, None, "report {seed} {k}");
+        assert!(text.iter().all(|&byte| byte == 0xEE), "report {seed} {k}: a slice too short");
         tally.add("slice too short");
         return;
     }
-    assert_eq!(found, Some(&wanted[..]), "sheet {seed} {k}");
-    assert!(text[wanted.len()..].iter().all(|&byte| byte == 0xEE), "sheet {seed} {k}: bytes past the text");
+    assert_eq!(found, Some(&wanted[..]), "report {seed} {k}");
+    assert!(text[wanted.len()..].iter().all(|&byte| byte == 0xEE), "report {seed} {k}: bytes past the text");
     let first: Vec<&str> = wanted.lines().next().expect("a line").split('\t').collect();
     tally.add(&format!("{} {}", if first[0] == "refused" { "refusal" } else { first[0] }, first[1]));
 }
@@ -368,7 +415,7 @@ const OUTCOMES: [(&str, &str, &[&str]); 11] = [
             "accepted, Fallback to Restart, as it was",
         ],
     ),
-    ("sheet", "20 21", &["record 0", "record 1", "slice too short"]),
+    ("report", "20 21", &["record 0", "record 1", "slice too short"]),
 ];
 
 /// Every outcome that the inputs of an entry must reach.

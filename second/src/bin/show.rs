@@ -18,7 +18,7 @@ fn main() {
     let bytes = match entry.as_str() {
         "gather" => gather_input(seed, k).window,
         "capsule" => capsule_input(seed, k).capsule,
-        "sheet" => call_input(0, seed, k).area,
+        "report" => call_input(0, seed, k).area,
         "soundness" | "rules" => call_input(1, seed, k).area,
         name => {
             let place = ENTRIES.iter().position(|&e| e == name).expect("an entry's name");

@@ -31,11 +31,12 @@ unfolding driverCount payloadCount drivers payloads
 returns c =
     let b = c .before .before in
     let e = b .body-of .ensures in
-    rw (passed (b .before)) (c .before .read16 .ensures ∙ ap (λ (l : List ℕ). le 2 l 4) e, c .read162 .ensures ∙ ap (λ (l : List ℕ). le 2 l 6) e)
+    rw (passed (b .before))
+    (c .before .read16 .ensures ∙ ap (λ (l : List ℕ). le 2 l 4) e, c .read162 .ensures ∙ ap (λ (l : List ℕ). le 2 l 6) e, refl)
 
 returns-2 : tie.Need-returns-2
 unfolding driverCount payloadCount
-returns-2 c = rw (sym (c .before .before .check .ensures) ∙ c .enum-told2 .given .1) (refl, refl)
+returns-2 c = rw (sym (c .before .before .before .check .ensures) ∙ c .before .checked .given .1) (refl, refl, refl)
 
 pub counts-of-spec : {M : Type 1} → statement M
 counts-of-spec =

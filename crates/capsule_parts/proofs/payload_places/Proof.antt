@@ -1,6 +1,6 @@
 -- `payload_places` meets its contract: header, image and vendor code fit. Assumes nothing.
 use borrow.Author.Needs.{needs}
-use mathlib.Core.Path.{_≡_, ap, _∙_}
+use mathlib.Core.Path.{_≡_, refl, ap, _∙_}
 use Prim.Native.Nat.{_≤_}
 use native.Mathlib.Omega.{arith}
 use lib.ListN.{length}
@@ -30,7 +30,9 @@ add-end c = omega (arith, starts (c .before .before), room (c .before .before .b
 
 returns : tie.Need-returns
 unfolding imageSize vendorCodeSize
-returns c = omega (arith, starts (c .before .before))
+returns c =
+    let e = starts (c .before .before) in
+    (omega (arith, e), omega (arith, e), omega (arith, e), refl)
 
 pub payload-places-spec : {M : Type 1} → statement M
 payload-places-spec =

@@ -1,11 +1,15 @@
 -- `places_of` meets its contract: a payload's bytes lie in the capsule. Assumes nothing.
 use borrow.Author.Needs.{needs}
-use mathlib.Core.Path.{_≡_, refl, sym, _∙_}
+use mathlib.Core.Path.{_≡_, refl, sym, ap, _∙_}
+use mathlib.Core.List.{List}
+use Prim.Native.Nat.{ℕ}
 use native.Mathlib.Omega.{arith}
 use Rattle.capsule_check.specs.Item.{located}
+use Rattle.capsule_check.specs.Verdict.{itemVerdict}
+use Rattle.capsule_check.specs.declared.Item.{Item}
 use Rattle.capsule_check.specs.declared.Item.the-variants.{Payload}
-use Rattle.capsule_check.proofs.Places.{Holds, holds}
-use Rattle.capsule_parts.proofs.Parts.{part-length}
+use Rattle.capsule_check.proofs.Places.{told, told-judged, Holds, holds}
+use Rattle.capsule_items.proofs.Items.{part-length}
 use Rattle.capsule_parts.proofs.places_of.Statement.{statement}
 use Rattle.capsule_parts.proofs.places_of.Tie as tie
 
@@ -40,16 +44,28 @@ payload-places-requires c κs =
     let h = held f in
     (h .1, omega (arith, part-length (s .args .s .now) (g .0) (g .1 .0) (h .0 .within), h .0 .some, h .0 .within, s .good))
 
+-- the verdict that a found item carries
+judged : (s : List ℕ) (k : ℕ) (i : Item) → i ≡ located s k → told i ≡ itemVerdict s k
+judged s k i e = ap told e ∙ told-judged s k
+
 returns : tie.Need-returns
-returns c = rw (sym (c .before .before .before .locate .ensures) ∙ c .before .found .given .1) (refl, refl)
+returns c =
+    let a = c .before .before .before .before .before .args in
+    let e = sym (c .before .before .before .locate .ensures) ∙ c .before .found .given .1 in
+    rw e (refl, refl, judged (a .s .now) (a .k) _ (sym e))
 
 returns-2 : tie.Need-returns-2
 returns-2 c =
+    let f = c .before .before .before in
+    let a = f .before .before .before .before .args in
     let e = c .payload-places .ensures in
-    rw (found (c .before .before .before), e .0, e .1, e .2) (refl, refl)
+    rw (found f, e .0, e .1, e .2, e .3) (refl, refl, judged (a .s .now) (a .k) _ (sym (found f)))
 
 returns-3 : tie.Need-returns-3
-returns-3 c = rw (sym (c .before .before .locate .ensures) ∙ c .enum-told .given .1) (refl, refl)
+returns-3 c =
+    let a = c .before .before .before .before .before .args in
+    let e = sym (c .before .before .before .locate .ensures) ∙ c .before .found3 .given .1 in
+    rw e (refl, refl, judged (a .s .now) (a .k) _ (sym e))
 
 pub places-of-spec : {M : Type 1} → statement M
 places-of-spec =

@@ -13,7 +13,7 @@ use borrow.Fn.PlainCycle.{Measures, is, falls, and}
 use Rattle.refusals.specs.declared.Refusal.the-variants.{BlockOutside, TotalLength}
 use Rattle.gather_window.specs.Window.{descriptorFits}
 use Rattle.gather_descriptors.specs.Reading.{Reading, refused, walk, jumpOrEnd, dataBlock, totalLimit}
-use Rattle.gather_descriptors.specs.Scratch.{Kept}
+use Rattle.gather_descriptors.specs.Scratch.{ScratchHolds}
 use Rattle.gather_descriptors.specs.declared.Read.{Read}
 use Rattle.gather_descriptors.proofs.Steps.{rest, descriptor-ends, bad-address, went-on, ended, none-left, below, jumped-on}
 use Rattle.gather_descriptors.proofs.jump.Reads as jump
@@ -117,8 +117,8 @@ run-read64-requires-2 t c κs = omega (arith, ends t (c .before))
 on : (t : ℕ) (q : run-lts.After-read642 (run-with t) (run-at t) run.Post) (new : List ℕ) (r : Read) (X : Reading)
     → let a = q .before .before .before .before .before .before .args in
     rest (a .left - 1) (a .w .now) (a .base) (a .base + a .at) (a .total) (q .before .read64 .result) (q .read642 .result) ≡ X
-    → Kept X (256 - (a .left - 1)) (set (a .ds .now) (256 - a .left) (a .base + a .at)) new r
-    → Kept (walk (a .left) (a .w .now) (a .base) (a .base + a .at) (a .total)) (256 - a .left) (a .ds .now) new r
+    → ScratchHolds X (256 - (a .left - 1)) (set (a .ds .now) (256 - a .left) (a .base + a .at)) new r
+    → ScratchHolds (walk (a .left) (a .w .now) (a .base) (a .base + a .at) (a .total)) (256 - a .left) (a .ds .now) new r
 on t q new r X ex h =
     let f = q .before .before in
     let s = f .before .before .before .before in
@@ -135,14 +135,14 @@ run-returns-3 t c =
     (c .jump .ensures)
 
 run-returns-4 : (t : ℕ) → run-lts.Need-returns-4 (run-with t) (run-at t) run.Post
-unfolding Kept dataBlock
+unfolding ScratchHolds dataBlock
 run-returns-4 t c =
     on t (c .before .before .before) _ _ (refused BlockOutside)
     (rw (ne-eqb _ _ (c .before .before .if3 .left), sym (c .before .block-fits .ensures) ∙ not-true _ (c .if4 .taken)))
     refl
 
 run-returns-5 : (t : ℕ) → run-lts.Need-returns-5 (run-with t) (run-at t) run.Post
-unfolding Kept dataBlock
+unfolding ScratchHolds dataBlock
 run-returns-5 t c =
     let q = c .before .before .before .before in
     let a = q .before .before .before .before .before .before .args in

@@ -8,13 +8,13 @@ use borrow.Author.Tests.{ltb-false, not-true, not-false}
 use lib.ListN.{length}
 use Rattle.gather_window.specs.Window.{pastEnd}
 use Rattle.gather_descriptors.specs.Reading.{reading}
-use Rattle.gather_descriptors.specs.Scratch.{Kept}
+use Rattle.gather_descriptors.specs.Scratch.{ScratchHolds}
 use Rattle.gather_descriptors.proofs.Steps.{below}
 use Rattle.gather_descriptors.proofs.read_list.Statement.{statement}
 use Rattle.gather_descriptors.proofs.read_list.Tie as tie
 
 returns : tie.Need-returns
-unfolding reading Kept
+unfolding reading ScratchHolds
 returns c =
     let a = c .before .before .before .args in
     let e : pastEnd (a .base) (length (a .w .now)) ≡ true =

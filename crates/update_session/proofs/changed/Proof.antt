@@ -1,6 +1,5 @@
 -- `changed` meets its contract. Assumes nothing.
-use mathlib.Core.Path.{sym}
-use Rattle.update_session.specs.Calls.{changedTo}
+use Rattle.update_session.proofs.Answered.{listed}
 use borrow.Author.Needs.{needs}
 use Rattle.update_session.proofs.changed.Statement.{statement}
 use Rattle.update_session.proofs.changed.Tie as tie
@@ -19,12 +18,10 @@ list-change-requires c κs =
     (s .pre .0, rw (← x .before .held-record .ensures .0) (x .alteration-for .ensures .within))
 
 returns : tie.Need-returns
-unfolding changedTo
 returns c =
     let n = c .before .before .before in
     let x = n .before .before in
-    let l = n .list-change .ensures in
-    rw (c .passed .ensures, l .count, l .lists, ← rw (x .before .held-record .ensures .0) at (x .alteration-for .ensures .new-is))
+    listed _ _ _ _ _ _ _ _ (c .passed .ensures) (rw (x .before .held-record .ensures .0) at (x .alteration-for .ensures .new-is)) (n .list-change .ensures)
 
 pub changed-spec : {M : Type 1} → statement M
 changed-spec =

@@ -1,0 +1,252 @@
+/* How many bytes of stack each function of the library touches: each is called on a stack of its own, painted before
+ * and looked at after, with the inputs that lead it farthest: 256 descriptors, 64 items, 4 banks and 32 images, copies
+ * equal, different and spoilt. Prints a line a function: name, bytes. c/measure compares them with what it reads from
+ * the code. */
+#include "../include/meanderpeg.h"
+
+#include <stdio.h>
+#include <string.h>
+#include <ucontext.h>
+
+enum { BANKS = 4, IMAGES = 32, COPY = 8192, ENTRY = 32 + 24 * BANKS, RECORD = 40 + IMAGES * ENTRY };
+enum { BASE = 0x1000, WINDOW = 16384, ITEMS = 64, CAPSULE = 28 + 8 + 8 * ITEMS + 48 * ITEMS };
+
+static uint8_t window[WINDOW], capsule[CAPSULE], area[MEANDERPEG_AREA_BYTES], text[MEANDERPEG_REPORT_BYTES];
+static uint32_t stores[MEANDERPEG_STORE_NUMBERS];
+static uint8_t guid[MEANDERPEG_GUID_BYTES];
+static struct meanderpeg_session session;
+static size_t item, blocks;
+
+static void put(uint8_t *at, uint64_t value, int bytes) {
+    for (int i = 0; i < bytes; i++) at[i] = (uint8_t)(value >> (8 * i));
+}
+
+static void make_window(void) {
+    memset(window, 7, sizeof window);
+    for (size_t i = 0; i < blocks; i++) {
+        put(window + 16 * i, i % 2 ? 1 : 2, 8);
+        put(window + 16 * i + 8, BASE + 6000 + 7 * (blocks - i), 8);
+    }
+    memset(window + 16 * blocks, 0, 16);
+}
+
+/* Every second descriptor a jump to the one behind it. */
+static void make_jumps(void) {
+    make_window();
+    for (size_t i = 1; i < blocks; i += 2) {
+        put(window + 16 * i, 0, 8);
+        put(window + 16 * i + 8, BASE + 16 * (i + 1), 8);
+    }
+}
+
+static void make_capsule(void) {
+    static const uint8_t type[16] = {0xed, 0xd5, 0xcb, 0x6d, 0x2d, 0xe8, 0x44, 0x4c,
+                                     0xbd, 0xa1, 0x71, 0x94, 0x19, 0x9a, 0xd9, 0x2a};
+    memset(capsule, 0, sizeof capsule);
+    memcpy(capsule, type, sizeof type);
+    put(capsule + 16, 28, 4);
+    put(capsule + 24, CAPSULE, 4);
+    uint8_t *body = capsule + 28;
+    put(body, 1, 4);
+    put(body + 4, ITEMS / 2, 2);
+    put(body + 6, ITEMS / 2, 2);
+    for (size_t i = 0; i < ITEMS; i++) {
+        size_t at = 8 + 8 * ITEMS + 48 * i;
+        put(body + 8 + 8 * i, at, 8);
+        put(body + at, 2, 4);
+        put(body + at + 24, 5, 4);
+        put(body + at + 28, 3, 4);
+    }
+}
+
+static uint32_t crc32(const uint8_t *bytes, size_t length) {
+    uint32_t crc = 0xffffffff;
+    for (size_t i = 0; i < length; i++) {
+        crc ^= bytes[i];
+        for (int bit = 0; bit < 8; bit++) crc = crc >> 1 ^ (crc & 1 ? 0xedb88320 : 0);
+    }
+    return ~crc;
+}
+
+/* All accepted, or image 31 of bank 0 not, in both copies; active is bank 0. */
+static void make_area(uint32_t last_accepted) {
+    memset(area, 0, sizeof area);
+    put(area + 4, 2, 4);
+    put(area + 12, 1, 4);
+    put(area + 16, RECORD, 4);
+    put(area + 20, 32, 2);
+    put(area + 24, last_accepted ? 0xfcfcfcfc : 0xfcfcfcfe, 4);
+    area[32] = BANKS;
+    put(area + 34, IMAGES, 2);
+    put(area + 36, ENTRY, 2);
+    put(area + 38, 24, 2);
+    for (size_t i = 0; i < IMAGES; i++) {
+        uint8_t *entry = area + 40 + i * ENTRY;
+        entry[15] = (uint8_t)(i + 1);
+        for (size_t bank = 0; bank < BANKS; bank++) put(entry + 32 + 24 * bank + 16, 1, 4);
+    }
+    put(area + 40 + (IMAGES - 1) * ENTRY + 32 + 16, last_accepted, 4);
+    put(area, crc32(area + 4, RECORD - 4), 4);
+    memcpy(area + COPY, area, RECORD);
+}
+
+static void do_stores(size_t pairs) {
+    for (size_t i = 0; i < pairs; i++) put(area + stores[2 * i], stores[2 * i + 1], 4);
+}
+
+/* ---- One call each; what it answers shows whether the input led where it should ---- */
+
+static uint32_t refusal;
+static uint8_t *before; /* the stack pointer at the call */
+
+#define CALLED(name, call)                                      \
+    static void name(void) {                                    \
+        __asm__ volatile("mov %%rsp, %0" : "=m"(before));       \
+        call;                                                   \
+    }
+#define ANSWERED(name, call) CALLED(name, refusal = (call).refusal)
+#define STORES stores, MEANDERPEG_STORE_NUMBERS
+
+static struct meanderpeg_gathered gathered;
+static struct meanderpeg_counts counts;
+static struct meanderpeg_part part;
+static uint8_t image_index;
+static uint64_t instance;
+static uint32_t copies;
+
+CALLED(gather, refusal = meanderpeg_gather(window, WINDOW, BASE, BASE, &gathered))
+CALLED(capsule_check, refusal = meanderpeg_capsule_check(capsule, CAPSULE, &counts))
+CALLED(capsule_item, refusal = meanderpeg_capsule_item(capsule, CAPSULE, item, &part))
+CALLED(capsule_image, refusal = meanderpeg_capsule_image(capsule, CAPSULE, item, &part))
+CALLED(capsule_vendor_code, refusal = meanderpeg_capsule_vendor_code(capsule, CAPSULE, item, &part))
+CALLED(capsule_type_guid, refusal = meanderpeg_capsule_type_guid(capsule, CAPSULE, item, guid))
+CALLED(capsule_image_index, refusal = meanderpeg_capsule_image_index(capsule, CAPSULE, item, &image_index))
+CALLED(capsule_hardware_instance, refusal = meanderpeg_capsule_hardware_instance(capsule, CAPSULE, item, &instance))
+CALLED(soundness, refusal = meanderpeg_soundness(area, sizeof area, &copies))
+CALLED(report, refusal = meanderpeg_report(area, sizeof area, text, sizeof text) == 0)
+ANSWERED(start_up, meanderpeg_start_up(area, sizeof area, 0))
+ANSWERED(repair, meanderpeg_repair(area, sizeof area, STORES))
+ANSWERED(begin, meanderpeg_begin(session, area, sizeof area, STORES))
+ANSWERED(commit, meanderpeg_commit(session, area, sizeof area, guid, MEANDERPEG_IMAGE_UNACCEPTED, STORES))
+ANSWERED(end, meanderpeg_end(session, area, sizeof area, STORES))
+ANSWERED(cancel, meanderpeg_cancel(session, area, sizeof area, STORES))
+ANSWERED(accept, meanderpeg_accept(session, area, sizeof area, guid, STORES))
+ANSWERED(select_previous, meanderpeg_select_previous(session, area, sizeof area, STORES))
+
+/* ---- The painted stack ---- */
+
+static uint8_t stack[1 << 18];
+
+static void call_on_it(void (*call)(void)) {
+    static ucontext_t here, there;
+    getcontext(&there);
+    there.uc_stack.ss_sp = stack;
+    there.uc_stack.ss_size = sizeof stack;
+    there.uc_link = &here;
+    makecontext(&there, call, 0);
+    swapcontext(&here, &there);
+}
+
+static size_t touched_on(int paint, void (*call)(void)) {
+    memset(stack, paint, sizeof stack);
+    call_on_it(call);
+    size_t lowest = 0;
+    while (stack[lowest] == paint) lowest++;
+    return (size_t)(before - (stack + lowest));
+}
+
+static size_t larger(size_t a, size_t b) { return a > b ? a : b; }
+
+/* How many bytes below `before` a call touches; of two paints, since it may write one of them. */
+static size_t touched(void (*call)(void)) { return larger(touched_on(0x5a, call), touched_on(0xa5, call)); }
+
+static int faults;
+
+static void show(const char *name, size_t bytes) { printf("%s %zu\n", name, bytes); }
+
+static size_t called(void (*call)(void), uint32_t expected) {
+    size_t bytes = touched(call);
+    if (refusal != expected) {
+        fprintf(stderr, "stack: refusal %u where %u was expected\n", refusal, expected);
+        faults++;
+    }
+    return bytes;
+}
+
+static void gathering(void) {
+    size_t most = 0;
+    blocks = 255;
+    make_window();
+    most = larger(most, called(gather, MEANDERPEG_OK));
+    make_jumps();
+    most = larger(most, called(gather, MEANDERPEG_OK));
+    blocks = 256;
+    make_window();
+    most = larger(most, called(gather, MEANDERPEG_DESCRIPTOR_COUNT));
+    make_jumps();
+    show("gather", larger(most, called(gather, MEANDERPEG_DESCRIPTOR_COUNT)));
+}
+
+static void capsules(void) {
+    static const struct {
+        const char *name;
+        void (*call)(void);
+        uint32_t past_the_end;
+    } calls[] = {{"capsule_check", capsule_check, 0},
+                 {"capsule_item", capsule_item, 16},
+                 {"capsule_image", capsule_image, 16},
+                 {"capsule_vendor_code", capsule_vendor_code, 16},
+                 {"capsule_type_guid", capsule_type_guid, 16},
+                 {"capsule_image_index", capsule_image_index, 16},
+                 {"capsule_hardware_instance", capsule_hardware_instance, 16}};
+    make_capsule();
+    for (size_t i = 0; i < sizeof calls / sizeof *calls; i++) {
+        size_t most = 0;
+        for (item = 0; item <= ITEMS; item++)
+            most = larger(most, called(calls[i].call, item == ITEMS ? calls[i].past_the_end : 0));
+        show(calls[i].name, most);
+    }
+}
+
+/* A call in a session, given the record as it is, then with one copy spoilt, then the other. */
+static void changed(const char *name, void (*call)(void), uint32_t without_pair) {
+    size_t most = called(call, MEANDERPEG_OK);
+    for (int copy = 0; copy < 2; copy++) {
+        area[COPY * copy + 60] ^= 1;
+        most = larger(most, called(call, without_pair));
+        area[COPY * copy + 60] ^= 1;
+    }
+    area[COPY + 60] ^= 1;
+    put(area + COPY, crc32(area + COPY + 4, RECORD - 4), 4);
+    show(name, larger(most, called(call, without_pair)));
+    memcpy(area + COPY, area, RECORD);
+}
+
+static void records(void) {
+    make_area(0);
+    guid[15] = IMAGES;
+    changed("soundness", soundness, 0);
+    changed("report", report, 0);
+    changed("start_up", start_up, 0);
+    changed("repair", repair, 0);
+    session.kind = MEANDERPEG_TRIAL;
+    changed("accept", accept, 22);
+    changed("select_previous", select_previous, 22);
+    make_area(1);
+    session.kind = MEANDERPEG_REGULAR;
+    changed("begin", begin, 22);
+    struct meanderpeg_answer answer = meanderpeg_begin(session, area, sizeof area, STORES);
+    do_stores(answer.pairs);
+    session = answer.session;
+    changed("commit", commit, 22);
+    changed("cancel", cancel, 22);
+    session.set = 0xffffffff;
+    changed("end", end, 22);
+}
+
+int main(void) {
+    gathering();
+    capsules();
+    records();
+    return faults != 0;
+}

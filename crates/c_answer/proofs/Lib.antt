@@ -1,0 +1,2 @@
+-- How an exported call follows from its parts. Assumes nothing.
+pub mod Exported

@@ -1,0 +1,10 @@
+-- `refused` meets its contract. Assumes nothing.
+use borrow.Author.Needs.{needs}
+use Rattle.c_answer.proofs.refused.Statement.{statement}
+use Rattle.c_answer.proofs.refused.Tie as tie
+
+returns : tie.Need-returns
+returns c = rw (c .before .told-by .ensures, c .number .ensures)
+
+pub refused-spec : {M : Type 1} → statement M
+refused-spec = tie.close (tie.spec (λ c κs. search needs) (λ c κs. search needs) returns)

@@ -1,0 +1,2 @@
+-- What an exported function returns and sets. Assumes nothing.
+pub mod Replied

@@ -1,0 +1,2 @@
+-- The exported start-up and repair. Assumes nothing.
+pub mod Exported

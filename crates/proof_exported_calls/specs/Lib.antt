@@ -1,0 +1,2 @@
+-- The exported calls under power cuts. Assumes nothing.
+pub mod ExportedCalls

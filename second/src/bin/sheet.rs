@@ -1,9 +1,0 @@
-//! Document 01, "The bench sheet": reads an area from standard input and prints its sheet.
-
-use std::io::{Read, Write};
-
-fn main() {
-    let mut input = Vec::new();
-    std::io::stdin().read_to_end(&mut input).expect("standard input");
-    std::io::stdout().write_all(second::sheet::sheet(&input).as_bytes()).expect("standard output");
-}
