@@ -4,9 +4,13 @@
  * the code. */
 #include "../include/meanderpeg.h"
 
+#if __STDC_HOSTED__
 #include <stdio.h>
 #include <string.h>
 #include <ucontext.h>
+#else /* on the emulated Arm board: board/run */
+#include "../board/machine.h"
+#endif
 
 enum { BANKS = 4, IMAGES = 32, COPY = 8192, ENTRY = 32 + 24 * BANKS, RECORD = 40 + IMAGES * ENTRY };
 enum { BASE = 0x1000, WINDOW = 16384, ITEMS = 64, CAPSULE = 28 + 8 + 8 * ITEMS + 48 * ITEMS };
@@ -99,9 +103,14 @@ static void do_stores(size_t pairs) {
 static uint32_t refusal;
 static uint8_t *before; /* the stack pointer at the call */
 
+#ifdef __aarch64__
+#define STACK_POINTER "mov %0, sp"
+#else
+#define STACK_POINTER "mov %%rsp, %0"
+#endif
 #define CALLED(name, call)                                      \
     static void name(void) {                                    \
-        __asm__ volatile("mov %%rsp, %0" : "=m"(before));       \
+        __asm__ volatile(STACK_POINTER : "=r"(before));         \
         call;                                                   \
     }
 #define ANSWERED(name, call) CALLED(name, refusal = (call).refusal)
@@ -137,6 +146,7 @@ ANSWERED(select_previous, meanderpeg_select_previous(session, area, sizeof area,
 
 static uint8_t stack[1 << 18];
 
+#if __STDC_HOSTED__
 static void call_on_it(void (*call)(void)) {
     static ucontext_t here, there;
     getcontext(&there);
@@ -146,6 +156,35 @@ static void call_on_it(void (*call)(void)) {
     makecontext(&there, call, 0);
     swapcontext(&here, &there);
 }
+
+static void show(const char *name, size_t bytes) { printf("%s %zu\n", name, bytes); }
+#else
+static uint64_t longest; /* of the calls since the last line, by the board's clock */
+
+static void call_on_it(void (*call)(void)) {
+    uint64_t began = ticks();
+    call_on(stack + sizeof stack, call);
+    uint64_t took = ticks() - began;
+    longest = took > longest ? took : longest;
+}
+
+/* A third column: with -icount shift=0 the emulator's clock has a tick for 16 instructions. */
+static void show(const char *name, size_t bytes) {
+    print(name);
+    print(" ");
+    print_number(bytes);
+    print(" ");
+    print_number(16 * longest);
+    print("\n");
+    longest = 0;
+}
+
+void trapped(uint64_t syndrome, uint64_t address) {
+    show("trapped", syndrome >> 26);
+    show("at", address);
+    power_off();
+}
+#endif
 
 static size_t touched_on(int paint, void (*call)(void)) {
     memset(stack, paint, sizeof stack);
@@ -162,12 +201,11 @@ static size_t touched(void (*call)(void)) { return larger(touched_on(0x5a, call)
 
 static int faults;
 
-static void show(const char *name, size_t bytes) { printf("%s %zu\n", name, bytes); }
-
 static size_t called(void (*call)(void), uint32_t expected) {
     size_t bytes = touched(call);
     if (refusal != expected) {
-        fprintf(stderr, "stack: refusal %u where %u was expected\n", refusal, expected);
+        show("expected_refusal", expected);
+        show("found_refusal", refusal);
         faults++;
     }
     return bytes;

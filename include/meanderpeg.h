@@ -93,14 +93,19 @@
  *
  * THE MACHINE (`c/measure` prints all of this from the archive)
  *
+ * This is about the archive for x86-64 Linux. For firmware there are two others, which use neither vector registers nor
+ * a red zone: `c/library --target aarch64` (little-endian, 64-bit pointers, aligned accesses alone, the compiler's own
+ * calling convention) and `--target x86_64-firmware`. They ask for memcpy and memset, and want at most 26,832 bytes of
+ * stack for meanderpeg_gather and 800 for any other call; docs/TARGETS.md has the numbers of each.
+ *
  *   - x86-64 code in ELF objects, position-independent, for 64-bit pointers and the System V calling convention. Where
  *     a compiler's own convention is another (UEFI and Windows targets), the declarations below ask for this one.
  *   - It asks for memset, by the same convention, and for nothing else; it has no data and no bss.
  *   - It uses the red zone: up to 56 bytes below the stack pointer hold values during a call. Where interrupts come
  *     in on the same stack (firmware, kernels: what is compiled with -mno-red-zone), mask them during a call (in UEFI
- *     RaiseTPL to TPL_HIGH_LEVEL) or give their handlers a stack of their own (IST).
- *   - It uses xmm0 and xmm1, so SSE must be enabled, and an interrupt handler that uses them must save them. No x87,
- *     no AVX.
+ *     RaiseTPL to TPL_HIGH_LEVEL), give their handlers a stack of their own (IST), or link the archive for firmware.
+ *   - It uses xmm0 and xmm1, so SSE must be enabled, and an interrupt handler that uses them must save them; the
+ *     archive for firmware does not. No x87, no AVX.
  *   - Bytes of stack that a call uses at most; what memset uses comes on top:
  *
  *       meanderpeg_gather                     26,880    meanderpeg_report                        704
@@ -126,14 +131,20 @@
 
 /* ---- Whether the archive fits, and what this compiler knows ---- */
 
-#if !defined(__x86_64__) && !defined(_M_X64)
-#error "meanderpeg: libmeanderpeg.a has code for x86-64 alone"
+#if !defined(__x86_64__) && !defined(_M_X64) && !defined(__aarch64__)
+#error "meanderpeg: libmeanderpeg.a has code for x86-64 and AArch64 alone"
 #endif
 #if defined(__ILP32__) || defined(_ILP32)
-#error "meanderpeg: libmeanderpeg.a wants 64-bit pointers; this is x86-64 with 32-bit ones (x32)"
+#error "meanderpeg: libmeanderpeg.a wants 64-bit pointers; here they have 32 bits (x32, ilp32)"
+#endif
+#if defined(__AARCH64EB__)
+#error "meanderpeg: libmeanderpeg.a has code for little-endian AArch64 alone"
 #endif
 
-#if defined(__GNUC__) || defined(__clang__)
+#if defined(__aarch64__) /* one convention, the compiler's own */
+#define MEANDERPEG_SYSV
+#define MEANDERPEG_CHECKED __attribute__((warn_unused_result, nonnull))
+#elif defined(__GNUC__) || defined(__clang__)
 #define MEANDERPEG_SYSV __attribute__((sysv_abi))
 #define MEANDERPEG_CHECKED __attribute__((warn_unused_result, nonnull))
 #elif defined(_WIN32) || defined(_MSC_VER)
