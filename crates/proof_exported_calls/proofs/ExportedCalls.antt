@@ -13,7 +13,9 @@ use Rattle.update_session.specs.declared.Session.{Session}
 use Rattle.update_session.specs.Calls.{Result, held, tests, transition, changedTo, following, answered}
 use Rattle.update_repair.specs.Repair.{repairedBy, repaired}
 use Rattle.proof_call_results.specs.CallResults.{Passed}
-use Rattle.proof_history.specs.History.{listOf}
+use Rattle.proof_history.specs.History.{listOf, repairs, cut, areaAfter, sessionAfter}
+use Rattle.proof_history.specs.HistoryLaws.{world, event}
+use Rattle.proof_history.proofs.HistoryLaws.{history-laws}
 use Rattle.proof_power_cuts.proofs.PowerCuts.{power-cuts}
 use Rattle.c_session.specs.declared.SessionNumbers.{SessionNumbers}
 use Rattle.c_session.specs.Numbers.{sessionNamed}
@@ -62,7 +64,7 @@ repair-passed a s e = go (decide (repairTests a (length s))) (decide-positive (r
     go (refusal number values) p h = absurd (omega (arith, p, h))
 
 pub exported-calls : ExportedCalls
-unfolding listOf
+unfolding listOf areaAfter sessionAfter
 exported-calls =
     record {
       call-survives = λ k given a s n es b e.
@@ -70,6 +72,12 @@ exported-calls =
       call-listed = λ k given a s b e.
           let p = call-passed k given a s e in rw (p .1) (power-cuts .change-listed k (sessionNamed given) a s b (p .0));
       repair-mends = λ a s b e. power-cuts .repair a s (exportedRepair (repaired a s) .0 .pairs) b (repair-passed a s e);
+      repair-survives = λ a s n q es b e quiet.
+          let h = repair-passed a s e in
+          let m = power-cuts .repair a s (exportedRepair (repaired a s) .0 .pairs) b h in (
+            history-laws .repair-done (world a q) s (cut n) (exportedRepair (repaired a s) .0 .pairs) h,
+            power-cuts .anywhere (world a q) (event repairs s (cut n) ∷ es) (m .is-area) b (m .has-sound) (tt, quiet),
+          );
       repair-listed = λ a s e. power-cuts .repair-listed a s (exportedRepair (repaired a s) .0 .pairs) (repair-passed a s e);
       start-up-reads = λ a r booted h. ap exportedStart (h .answers booted);
     }

@@ -158,7 +158,7 @@ pub record Repairs (a : List ℕ) (ss : List Store) : Type 0 where
 
 -- ---- the whole statement. That a is bytes is all that a change asks of it: that it is an area with two sound and
 -- equal copies is what the calls are refused for otherwise. No clause has a premise about the checksum (P12). That
--- calls and repairs are accepted at all is for their own clauses to say; proofs/Sample.antt has one of each
+-- calls and repairs are accepted at all is for their own clauses to say; crate proof_sample_update has one of each
 --     makes            the new record has the old one's fields but for what the call's rule alters, and the old one's
 --                      bytes elsewhere but for the CRC's, which its soundness fixes (S17)
 --     change           one change, its cut, and the whole list
