@@ -3,6 +3,7 @@
 
 use crate::capsule;
 use crate::digest::{Digest, Tally};
+use crate::directory::*;
 use crate::gather::gather;
 use crate::inputs::*;
 use crate::record;
@@ -11,7 +12,7 @@ use crate::report::{report, report_in, REPORT_BYTES};
 
 /// The entries, by name, in the order in which they are reported. The last has no place in the comparison with
 /// crates/test_random, which asks for soundness instead: the product's interface tells no failing rule's number.
-pub const ENTRIES: [&str; 13] = [
+pub const ENTRIES: [&str; 15] = [
     "gather",
     "capsule",
     "start_up",
@@ -24,6 +25,8 @@ pub const ENTRIES: [&str; 13] = [
     "select_previous",
     "report",
     "soundness",
+    "directory_write",
+    "directory_read",
     "rules",
 ];
 
@@ -102,6 +105,24 @@ pub fn outcomes(entry: &str) -> Vec<String> {
         ),
         "report" => (&[], &["refused 20", "refused 21", "record 0", "record 1", "slice too short"]),
         "soundness" => (&[20], &SOUNDNESS),
+        "directory_write" => (
+            &[20, 21, 28, 40, 41, 42],
+            &[
+                "accepted, correct_boot 0, copy 0 read",
+                "accepted, correct_boot 0, copy 1 read",
+                "accepted, correct_boot 1, copy 0 read",
+                "accepted, correct_boot 1, copy 1 read",
+            ],
+        ),
+        "directory_read" => (
+            &[43, 44, 45, 46],
+            &[
+                "accepted, correct_boot 0, entry below the count",
+                "accepted, correct_boot 0, entry past the count",
+                "accepted, correct_boot 1, entry below the count",
+                "accepted, correct_boot 1, entry past the count",
+            ],
+        ),
         _ => (&[], &[]),
     };
     let mut all: Vec<String> = refusals.iter().map(|number| format!("refusal {number}")).collect();
@@ -137,6 +158,8 @@ pub fn answer(entry: &str, seed: u64, k: u64, account: &mut Account) -> String {
         "capsule" => answer_capsule(seed, k, account),
         "report" => answer_report(seed, k, account),
         "soundness" => answer_soundness(seed, k, account),
+        "directory_write" => answer_directory_write(seed, k, account),
+        "directory_read" => answer_directory_read(seed, k, account),
         "rules" => answer_rules(seed, k, account),
         _ => {
             let place = ENTRIES.iter().position(|&e| e == entry).expect("an entry's name");
@@ -314,6 +337,9 @@ fn answer_call(call: u64, seed: u64, k: u64, account: &mut Account) -> String {
 const REPORT_BUFFER: usize = 4_352;
 const REPORT_FILL: u8 = 99;
 
+/// The same for a directory; its bytes hold REPORT_FILL before too.
+const DIRECTORY_BUFFER: usize = 2_700;
+
 /// The report of the area that input k of start-up holds, in a lent slice.
 fn answer_report(seed: u64, k: u64, account: &mut Account) -> String {
     let input = report_input(seed, k);
@@ -352,6 +378,73 @@ fn answer_soundness(seed: u64, k: u64, account: &mut Account) -> String {
     let outcome = SOUNDNESS[(zero + 2 * one + equal) as usize];
     account.tally.add(outcome);
     outcome.to_string()
+}
+
+/// What an answer holds in place of a number that a refused function leaves as it was.
+const LEFT: u32 = 99;
+
+fn answer_directory_write(seed: u64, k: u64, account: &mut Account) -> String {
+    let input = directory_write_input(seed, k);
+    account.inputs.word(input.booted);
+    account.inputs.word(input.words.len() as u32);
+    for &word in &input.words {
+        account.inputs.word(word);
+    }
+    account.inputs.word(input.room as u32);
+    account.inputs.bytes(&input.area);
+    let mut buffer = [REPORT_FILL; DIRECTORY_BUFFER];
+    let answer = directory_write(&input.area, input.booted, &input.words, &mut buffer[..input.room]);
+    account.answers.word(answer.err().unwrap_or(0));
+    account.answers.word(answer.map_or(LEFT, |length| length as u32));
+    account.answers.bytes(&buffer);
+    let outcome = match answer {
+        Err(number) => format!("refusal {number}"),
+        Ok(_) => {
+            let copy = record::record_read(&input.area).expect("a sound copy").0;
+            format!("accepted, correct_boot {}, copy {copy} read", buffer[12])
+        }
+    };
+    account.tally.add(&outcome);
+    format!(
+        "area of {} bytes, booted {}, {} words {:x?}, room {}: {answer:?}, {outcome}, {:02x?}",
+        input.area.len(),
+        input.booted,
+        input.words.len(),
+        input.words,
+        input.room,
+        &buffer[..answer.unwrap_or(0) as usize]
+    )
+}
+
+fn answer_directory_read(seed: u64, k: u64, account: &mut Account) -> String {
+    let input = directory_read_input(seed, k);
+    account.inputs.long(input.entry);
+    account.inputs.bytes(&input.directory);
+    let refusal = directory_refusal(&input.directory);
+    let shown = directory_check(&input.directory);
+    let part = directory_type_guid(&input.directory, input.entry);
+    let numbers = directory_numbers(&input.directory, input.entry);
+    let (images, boot) = shown.unwrap_or((LEFT, LEFT));
+    let (start, length) = part.unwrap_or((LEFT as u64, LEFT as u64));
+    account.answers.word(refusal);
+    account.answers.word(images);
+    account.answers.word(boot);
+    account.answers.long(start);
+    account.answers.long(length);
+    for number in numbers.unwrap_or([LEFT; 5]) {
+        account.answers.word(number);
+    }
+    let place = if input.entry < images as u64 { "below" } else { "past" };
+    let outcome = match refusal {
+        0 => format!("accepted, correct_boot {boot}, entry {place} the count"),
+        number => format!("refusal {number}"),
+    };
+    account.tally.add(&outcome);
+    format!(
+        "directory of {} bytes, entry {}: {outcome}, {shown:?}, type GUID {part:?}, numbers {numbers:x?}",
+        input.directory.len(),
+        input.entry
+    )
 }
 
 /// The first failing rule of both copies of the area that input k of repair holds; 99 where it isn't 16,384 bytes.

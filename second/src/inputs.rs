@@ -1,7 +1,7 @@
 //! Inputs that are nearly right, the k-th of a seed for each group of entries. GENERATORS.md gives the same as a
 //! recipe, step by step with the order of draws, so that it can be written again elsewhere.
 
-use crate::bytes::put;
+use crate::bytes::{number, put};
 use crate::capsule::FMP_GUID;
 use crate::make::*;
 use crate::record::{AREA, COPY};
@@ -789,7 +789,13 @@ pub fn call_input(call: u64, seed: u64, k: u64) -> CallInput {
 
 /// Input k of a call, and the sequence as its draws left it.
 fn call_input_and_draw(call: u64, seed: u64, k: u64) -> (CallInput, Draw) {
-    let mut d = Draw::start(3 + call, seed, k);
+    let (input, _, d) = call_input_begun(call, 3 + call, seed, k);
+    (input, d)
+}
+
+/// Input k of a call with the draws of a group, its first plan, and the sequence as left.
+fn call_input_begun(call: u64, group: u64, seed: u64, k: u64) -> (CallInput, RecordPlan, Draw) {
+    let mut d = Draw::start(group, seed, k);
     let case = k % CALL_CASES;
     let round = k / CALL_CASES;
     let tint = d.below(256) as usize;
@@ -975,5 +981,242 @@ fn call_input_and_draw(call: u64, seed: u64, k: u64) -> (CallInput, Draw) {
     }
     // Start-up and repair are given no session.
     let raw = if call < 2 { session_words(Session::Restart) } else { raw.unwrap_or(session_words(session)) };
-    (CallInput { area, session: session_of_words(raw), raw, slice_len, guid, request, booted }, d)
+    let input = CallInput { area, session: session_of_words(raw), raw, slice_len, guid, request, booted };
+    (input, plan, d)
+}
+
+// Groups 11 and 12: image directories.
+
+/// Values that make permissions wrong above their lower three bits.
+const WRONG_PERMISSIONS: [u64; 4] = [8, 16, 2_147_483_648, 4_294_967_288];
+
+/// The recipe "the words": word q of the numbers m and s.
+fn word_of(q: usize, m: u32, s: u32) -> u64 {
+    let value = (m as u64 + q as u64 * s as u64) % 4_294_967_296;
+    if q % 4 == 0 {
+        value % 8
+    } else {
+        value
+    }
+}
+
+#[derive(Clone, Debug)]
+pub struct DirectoryWriteInput {
+    pub area: Vec<u8>,
+    pub booted: u32,
+    pub words: Vec<u32>,
+    pub room: usize,
+    /// The first plan drawn: n and room are nearly right for its images.
+    pub plan: RecordPlan,
+}
+
+/// Area and booted bank of a start-up, with draws of a group of their own; they go on where that input's ended.
+pub fn directory_write_input(seed: u64, k: u64) -> DirectoryWriteInput {
+    let (input, plan, mut d) = call_input_begun(0, 11, seed, k);
+    let images = plan.images;
+    let u = d.below(2);
+    let c = d.below(plan.banks as u64) as u32;
+    let a = d.below(12) as usize;
+    let b = d.below(16) as usize;
+    let p = d.below(8) as usize;
+    let i = d.below(32) as usize;
+    let v = d.below(4) as usize;
+    let m = d.word();
+    let s = d.word();
+    let need = 4 * images;
+    let n = if a < 6 { [need - 1, need - 4, 0, need + 1, need + 4, 300][a] } else { need };
+    let size = 24 + 40 * images;
+    let room = if b < 7 { [size - 1, size - 40, 0, 23, size + 1, size + 40, 2_700][b] } else { size };
+    let mut words: Vec<u32> = (0..n).map(|q| word_of(q, m, s) as u32).collect();
+    if p < 4 {
+        let t = [0, images - 1, i % images, images][p];
+        if 4 * t < n {
+            words[4 * t] += WRONG_PERMISSIONS[v] as u32;
+        }
+    }
+    let booted = if u == 1 { c } else { input.booted };
+    DirectoryWriteInput { area: input.area, booted, words, room, plan }
+}
+
+pub const DIRECTORY_CASES: u64 = 24;
+/// No directory of the recipe is longer.
+pub const DIRECTORY_ROOM: usize = 1_400;
+
+#[derive(Clone, Debug)]
+pub struct DirectoryReadInput {
+    pub directory: Vec<u8>,
+    pub entry: u64,
+}
+
+/// What the recipe draws for a directory, in this order.
+struct DirectoryPlan {
+    tint: u64,
+    images: usize,
+    boot: u64,
+    place: usize,
+    m: u32,
+    s: u32,
+    f: u32,
+    v: usize,
+    i: usize,
+    z: usize,
+    y: usize,
+}
+
+fn directory_plan(d: &mut Draw) -> DirectoryPlan {
+    let tint = d.below(256);
+    let a = d.below(4);
+    let b = d.below(32) as usize;
+    let images = match a {
+        0 => 1,
+        1 => 32,
+        2 => 1 + b % 4,
+        _ => 1 + b,
+    };
+    DirectoryPlan {
+        tint,
+        images,
+        boot: d.below(2),
+        place: d.below(16) as usize,
+        m: d.word(),
+        s: d.word(),
+        f: d.word(),
+        v: d.below(4) as usize,
+        i: d.below(32) as usize,
+        z: d.below(16) as usize,
+        y: d.below(3) as usize,
+    }
+}
+
+/// The buffer that holds the plan's directory at its start, filler behind it.
+fn directory_buffer(plan: &DirectoryPlan) -> Vec<u8> {
+    let mut c = filled(DIRECTORY_ROOM as u64, plan.tint);
+    for (place, value) in [2, 24, plan.images as u128, plan.boot as u128, 40, 0].into_iter().enumerate() {
+        put(&mut c, 4 * place, 4, value);
+    }
+    for j in 0..plan.images {
+        let o = 24 + 40 * j;
+        c[o..o + 16].copy_from_slice(&type_guid_for(j, plan.place));
+        for word in 0..4 {
+            put(&mut c, o + 16 + 4 * word, 4, word_of(4 * j + word, plan.m, plan.s) as u128);
+        }
+        put(&mut c, o + 32, 4, (plan.f >> (j % 32)) as u128 & 1);
+        put(&mut c, o + 36, 4, 0);
+    }
+    c
+}
+
+/// Adds to the number of four bytes at `at`.
+fn grow(c: &mut [u8], at: usize, by: u64) {
+    let value = number(c, at as u128, 4);
+    put(c, at, 4, value + by as u128);
+}
+
+/// Adds 1 to a byte, mod 256.
+fn one_up(c: &mut [u8], at: usize) {
+    c[at] = ((c[at] as usize + 1) % 256) as u8;
+}
+
+/// The number of the entry that is asked for. Of the large ones three times 40 is 0 in their lower 32 or 64 bits.
+fn entry_number(d: &mut Draw, images: u64) -> u64 {
+    let t = d.below(8);
+    let w = d.below(64);
+    match t {
+        5 => images,
+        6 => images + 1,
+        7 => [1 << 29, 1 << 32, 1 << 61, u64::MAX][w as usize % 4],
+        _ => w % images,
+    }
+}
+
+pub fn directory_read_input(seed: u64, k: u64) -> DirectoryReadInput {
+    let mut d = Draw::start(12, seed, k);
+    let case = k % DIRECTORY_CASES;
+    let mut plan = directory_plan(&mut d);
+    let entry = entry_number(&mut d, plan.images as u64);
+    let e = [0, plan.images - 1, plan.i % plan.images][plan.y];
+    if case == 6 {
+        plan.images = if plan.v % 2 == 0 { 0 } else { 33 };
+    }
+    let mut c = directory_buffer(&plan);
+    let length = 24 + 40 * plan.images;
+    let given = match case {
+        7..=13 => {
+            spoil_header(&mut c, &plan, case);
+            length
+        }
+        16..=21 => {
+            spoil_entry(&mut c, &plan, case, e);
+            length
+        }
+        22 => spoil_several(&mut c, &plan, e, length),
+        14 => [length - 1, length + 1, length - 40, length + 40][plan.v],
+        15 => [0, 1, 23, 24][plan.v],
+        23 => {
+            one_up(&mut c, (512 * plan.y + 16 * plan.i + plan.z) % length);
+            length
+        }
+        _ => length,
+    };
+    c.truncate(given);
+    DirectoryReadInput { directory: c, entry }
+}
+
+/// Cases 7 to 13: one field of the header.
+fn spoil_header(c: &mut [u8], plan: &DirectoryPlan, case: u64) {
+    let (v, z) = (plan.v, plan.z);
+    let (images, boot) = (plan.images as u128, plan.boot as u128);
+    match case {
+        7 => put(c, 0, 4, [0, 1, 3, 2_147_483_650][v]),
+        8 => put(c, 4, 4, [0, 23, 25, 280][v]),
+        9 => {
+            let other = if z % 2 == 0 { 256 + images } else { 536_870_912 + images };
+            put(c, 8, 4, [0, 33, other, 2_147_483_648 + images][v]);
+        }
+        10 => put(c, 8, 4, [images - 1, images + 1, 1, 32][v]),
+        11 => put(c, 12, 4, [2, 3, 256 + boot, 2_147_483_648 + boot][v]),
+        12 => put(c, 16, 4, [0, 39, 41, 296][v]),
+        _ => c[20 + z % 4] = [1, 2, 128, 255][v],
+    }
+}
+
+/// Cases 16 to 21: one field of entry e, or two equal type GUIDs.
+fn spoil_entry(c: &mut [u8], plan: &DirectoryPlan, case: u64, e: usize) {
+    let (v, z) = (plan.v, plan.z);
+    let at = 24 + 40 * e;
+    match case {
+        16 => grow(c, at + 16, WRONG_PERMISSIONS[v]),
+        17 => grow(c, at + 32, [2, 256, 65_536, 2_147_483_648][v]),
+        18 => c[at + 36 + z % 4] = [1, 2, 128, 255][v],
+        21 => one_up(c, at + z),
+        _ => {
+            if plan.images >= 2 {
+                let last = plan.images - 1;
+                let (to, from) = match v {
+                    0 => (e, (e + 1) % plan.images),
+                    1 => (0, last),
+                    2 => (last, last - 1),
+                    _ => (e, (e + 1 + z % last) % plan.images),
+                };
+                c.copy_within(24 + 40 * from..24 + 40 * from + 16, 24 + 40 * to);
+            }
+        }
+    }
+}
+
+/// Case 22: several faults, for the order of refusals. Answers the length.
+fn spoil_several(c: &mut [u8], plan: &DirectoryPlan, e: usize, mut length: usize) -> usize {
+    if plan.z % 2 == 1 {
+        grow(c, 24 + 40 * e + 32, 2);
+    }
+    if (plan.z / 2) % 2 == 1 {
+        length -= 1;
+    }
+    if (plan.z / 4) % 2 == 1 {
+        put(c, 0, 4, 3);
+    }
+    if plan.z >= 8 {
+        length = 23;
+    }
+    length
 }

@@ -8,6 +8,7 @@ pub mod answers;
 pub mod bytes;
 pub mod capsule;
 pub mod digest;
+pub mod directory;
 pub mod gather;
 pub mod inputs;
 pub mod make;

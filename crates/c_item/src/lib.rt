@@ -7,7 +7,8 @@ ghost use mathlib.Core.List.{[], _∷_};
 ghost use Prim.Native.Nat.{_-_, _≤_};
 ghost use Rattle.capsule_check.specs.Verdict.{itemVerdict};
 ghost use Rattle.capsule_check.specs.Item.{located};
-ghost use Rattle.capsule_items.specs.Items.{itemPart, startAndLength};
+ghost use Rattle.fields.specs.Part.{startAndLength};
+ghost use Rattle.capsule_items.specs.Items.{itemPart};
 ghost use Rattle.c_reply.specs.Replied.{repliedBy};
 
 // Sets the part from start up to, not including, end.

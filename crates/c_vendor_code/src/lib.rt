@@ -5,7 +5,7 @@ use refusal_order::Verdict;
 ghost use mathlib.Core.Path.{_≡_};
 ghost use Rattle.capsule_check.specs.Verdict.{itemVerdict};
 ghost use Rattle.capsule_check.specs.Item.{located};
-ghost use Rattle.capsule_items.specs.Items.{startAndLength};
+ghost use Rattle.fields.specs.Part.{startAndLength};
 ghost use Rattle.capsule_parts.specs.Parts.{vendorCodePart};
 ghost use Rattle.c_reply.specs.Replied.{repliedBy};
 

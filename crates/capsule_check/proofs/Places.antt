@@ -12,7 +12,8 @@ use Rattle.refusals.specs.declared.Refusal.{Refusal}
 use Rattle.refusals.specs.declared.Refusal.the-variants.{NoItem}
 use Rattle.capsule_header.specs.Header.{headerSize, body}
 use Rattle.capsule_payloads.specs.Payload.{payloadRight}
-use Rattle.capsule_body.specs.Body.{part, drivers, payloads, items, offset, itemEnd}
+use Rattle.fields.specs.Part.{part}
+use Rattle.capsule_body.specs.Body.{drivers, payloads, items, offset, itemEnd}
 use Rattle.capsule_payloads.specs.Payload.{payloadAtRight, payloadsRight}
 use Rattle.capsule_body.specs.Body.{item as itemBytes}
 use Rattle.capsule_header.proofs.Header.{body-length}

@@ -1,16 +1,13 @@
--- Every item lies in its capsule; how long what lies there is. Assumes nothing.
-use mathlib.Core.Path.{_≡_}
+-- Every item lies in its capsule. Assumes nothing.
 use mathlib.Core.List.{List}
-use Prim.Native.Nat.{ℕ, _-_, _≤_}
+use Prim.Native.Nat.{ℕ}
 use native.Mathlib.Omega.{arith}
-use lib.ListN.{length, drop, length-drop}
-use lib.Seq.{length-take-le}
-use Rattle.capsule_body.specs.Body.{part}
+use Rattle.fields.specs.Part.{Lies}
 use Rattle.capsule_check.specs.Item.{located}
 use Rattle.capsule_check.specs.declared.Item.{Item}
 use Rattle.capsule_check.specs.declared.Item.the-variants.{Driver, Payload, Refused}
 use Rattle.capsule_check.proofs.Places.{Holds, holds}
-use Rattle.capsule_items.specs.Items.{Lies, itemPart}
+use Rattle.capsule_items.specs.Items.{itemPart}
 
 pub item-lies : (s : List ℕ) (k : ℕ) → Lies s (itemPart (located s k))
 unfolding Holds
@@ -20,6 +17,3 @@ item-lies s k = go (located s k) (holds s k)
     go (Driver a e) h = record { ordered = omega (arith, h .some); inside = h .within }
     go (Payload a e) h = record { ordered = omega (arith, h .0 .some); inside = h .0 .within }
     go (Refused r) h = record { ordered = omega arith; inside = omega arith }
-
-pub part-length : (s : List ℕ) (a e : ℕ) → e ≤ length s → length (part s a e) ≡ e - a
-part-length s a e h = length-take-le (e - a) (drop a s) (rw length-drop (omega arith))

@@ -1,2 +1,2 @@
--- What a part is, and what is handed out for an item. Assumes nothing.
+-- What is handed out for an item. Assumes nothing.
 pub mod Items

@@ -8,7 +8,8 @@ ghost use lib.ListN.{length};
 ghost use Rattle.refusal_order.specs.Decide.{verdictNumber};
 ghost use Rattle.capsule_check.specs.Verdict.{refusalNumber};
 ghost use Rattle.capsule_check.specs.Item.{located};
-ghost use Rattle.capsule_items.specs.Items.{IsPart, range, rangeOf, itemPart};
+ghost use Rattle.fields.specs.Part.{IsPart, range};
+ghost use Rattle.capsule_items.specs.Items.{rangeOf, itemPart};
 
 // The bytes of a capsule from start up to, not including, end.
 struct Span {

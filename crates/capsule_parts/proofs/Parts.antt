@@ -2,14 +2,14 @@
 use mathlib.Core.List.{List}
 use Prim.Native.Nat.{ℕ}
 use native.Mathlib.Omega.{arith}
-use Rattle.capsule_body.specs.Body.{part}
+use Rattle.fields.specs.Part.{part, Lies}
 use Rattle.capsule_payloads.proofs.Payload.{payload-fits}
 use Rattle.capsule_check.specs.Item.{located}
 use Rattle.capsule_check.specs.declared.Item.{Item}
 use Rattle.capsule_check.specs.declared.Item.the-variants.{Driver, Payload, Refused}
 use Rattle.capsule_check.proofs.Places.{Holds, holds}
-use Rattle.capsule_items.specs.Items.{Lies}
-use Rattle.capsule_items.proofs.Items.{item-lies, part-length}
+use Rattle.fields.proofs.Part.{part-length}
+use Rattle.capsule_items.proofs.Items.{item-lies}
 use Rattle.capsule_parts.specs.Parts.{imagePart, vendorCodePart, PartsLie}
 
 both-lie : (s : List ℕ) (i : Item) → Holds s i → Lies s (imagePart s i) × Lies s (vendorCodePart s i)

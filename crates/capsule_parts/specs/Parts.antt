@@ -2,12 +2,12 @@
 -- lies, from byte a of the capsule up to, not including, byte e, or the refusal. Assumes nothing.
 use Prim.Native.Nat.{ℕ, _+_}
 use mathlib.Core.List.{List}
-use Rattle.capsule_body.specs.Body.{part}
+use Rattle.fields.specs.Part.{part, Range, range, Lies, emptyAtStart}
 use Rattle.capsule_payloads.specs.Payload.{imageStart, imageEnd, vendorCodeEnd}
 use Rattle.capsule_check.specs.declared.Item.{Item}
 use Rattle.capsule_check.specs.declared.Item.the-variants.{Driver, Payload, Refused}
 use Rattle.capsule_check.specs.Item.{located}
-use Rattle.capsule_items.specs.Items.{Range, range, Lies, emptyAtStart, itemPart}
+use Rattle.capsule_items.specs.Items.{itemPart}
 use Rattle.capsule_parts.specs.declared.Places.{Places}
 
 -- C19: a driver's image is its whole item

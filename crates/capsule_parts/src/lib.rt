@@ -11,7 +11,7 @@ ghost use lib.ListN.{length};
 ghost use Rattle.capsule_payloads.specs.Payload.{imageStart, imageEnd, vendorCodeEnd, payloadRight};
 ghost use Rattle.capsule_check.specs.Verdict.{itemVerdict};
 ghost use Rattle.capsule_check.specs.Item.{located};
-ghost use Rattle.capsule_items.specs.Items.{IsPart};
+ghost use Rattle.fields.specs.Part.{IsPart};
 ghost use Rattle.capsule_parts.specs.Parts.{imagePart, vendorCodePart, imageTold, vendorCodeTold};
 
 // Where the parts of an item lie in the capsule: the image from `image` up to `code`, the vendor code from there up to

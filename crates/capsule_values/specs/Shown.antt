@@ -3,7 +3,7 @@
 use Prim.Native.Nat.{ℕ}
 use mathlib.Core.List.{List}
 use lib.ListN.{replicate}
-use Rattle.capsule_body.specs.Body.{part}
+use Rattle.fields.specs.Part.{part}
 use Rattle.capsule_payloads.specs.Payload.{typeGuid, imageIndex, hardwareInstance}
 use Rattle.capsule_check.specs.declared.Item.{Item}
 use Rattle.capsule_check.specs.declared.Item.the-variants.{Driver, Payload, Refused}

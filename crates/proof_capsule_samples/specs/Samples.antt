@@ -10,13 +10,13 @@ use Rattle.fields.specs.Guid.{guid, same}
 use Rattle.refusals.specs.declared.Refusal.the-variants.{NoItem}
 use Rattle.capsule_header.specs.Header.{headerSize, flags, capsuleImageSize, sizesRight, flagsRight, fmpGuid, guidRight, body}
 use Rattle.capsule_payloads.specs.Payload.{version, typeGuid, imageIndex, imageSize, vendorCodeSize, hardwareInstance, versionRight, headerLength, payloadRight}
-use Rattle.capsule_body.specs.Body.{part, all, bodyVersion, drivers, payloads, offset, rises, offsetRight, bodyRight, itemEnd, item}
+use Rattle.fields.specs.Part.{part, range, emptyAtStart}
+use Rattle.capsule_body.specs.Body.{all, bodyVersion, drivers, payloads, offset, rises, offsetRight, bodyRight, itemEnd, item}
 use Rattle.capsule_payloads.specs.Payload.{payloadAtRight, payloadsRight}
 use Rattle.refusal_order.specs.Decide.{verdictNumber}
 use Rattle.capsule_check.specs.Verdict.{verdict, itemVerdict, refusalNumber}
 use Rattle.capsule_check.specs.Item.{itemStartIn, itemEndIn, located}
 use Rattle.capsule_check.specs.declared.Item.the-variants.{Driver, Payload, Refused}
-use Rattle.capsule_items.specs.Items.{range, emptyAtStart}
 use Rattle.capsule_parts.specs.Parts.{imagePart, vendorCodePart}
 use Rattle.capsule_values.specs.Shown.{typeGuidOf, imageIndexOf, hardwareInstanceOf}
 

@@ -1,2 +1,3 @@
 -- Laws about the rules on entries, for the proofs here.
 pub mod Words
+pub mod Steps

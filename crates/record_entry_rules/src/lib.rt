@@ -4,18 +4,19 @@ use fields::read16;
 use fields::read32;
 use fields::same_guid;
 use record_layout::ACCEPTED_FROM;
+use record_layout::HEADER;
 use record_layout::RESERVED_FROM;
 use record_layout::RESERVED8_AT;
 use record_layout::RESERVED16_AT;
 use record_layout::RESERVED32_AT;
 use record_layout::bank_word;
-use record_layout::entry_at;
+use record_layout::entry_size;
 ghost use mathlib.Core.Path.{_≡_};
 ghost use mathlib.Core.Bool.{not};
-ghost use Prim.Native.Nat.{_≤_, _<_};
-ghost use Rattle.fields.specs.Guid.{guid, same};
-ghost use Rattle.record_layout.specs.Every.{below};
-ghost use Rattle.record_layout.specs.Layout.{entryAt};
+ghost use Prim.Native.Nat.{_+_, _*_, _≤_, _<_};
+ghost use lib.ListN.{length};
+ghost use Rattle.fields.specs.Guid.{same, guidEvery};
+ghost use Rattle.record_layout.specs.Every.{below, distinct};
 ghost use Rattle.record_layout.specs.Rules.{reservedRule, acceptedRule, typeGuidsRule};
 ghost use Rattle.record_layout.specs.Sized.{Sized, bankWords};
 
@@ -74,18 +75,36 @@ pub fn accepted_rule(r: &[u8], banks: usize, images: usize) -> bool
     all_words(r, banks, images, ACCEPTED_FROM, 1)
 }
 
-// Whether the type GUID of image i differs from those before it.
-fn guid_differs(r: &[u8], banks: usize, images: usize, i: usize) -> bool
-    requires { ⌜ Sized (now r) banks images × (i < images) ⌝ }
-    ensures { λ x. ⌜ x ≡ below i (λ j. not (same (guid (now (r .entry)) (entryAt banks j)) (guid (now (r .entry)) (entryAt banks i)))) ⌝ }
+// Whether the GUID at `at`, number i of those that stand `step` bytes apart from `first` on, differs from those before.
+fn guid_differs(s: &[u8], first: usize, step: usize, i: usize, at: usize) -> bool
+    requires { ⌜ (at ≡ first + i * step) × (at + 16 ≤ length (now s)) ⌝ }
+    ensures { λ x. ⌜ x ≡ below i (λ j. not (same (guidEvery step first (now (s .entry)) j) (guidEvery step first (now (s .entry)) i))) ⌝ }
 {
-    let at = entry_at(banks, i);
+    let mut from = first;
     let mut j = 0;
     while j < i {
-        if same_guid(r, entry_at(banks, j), r, at) {
+        if same_guid(s, from, s, at) {
             return false;
         }
+        from += step;
         j += 1;
+    }
+    true
+}
+
+// Whether n GUIDs that stand `step` bytes apart, the first at `first`, are all different. It serves directory_reader.
+pub fn guids_differ(s: &[u8], first: usize, step: usize, n: usize) -> bool
+    requires { ⌜ (16 ≤ step) × (first + n * step ≤ length (now s)) ⌝ }
+    ensures { λ x. ⌜ x ≡ distinct n (guidEvery step first (now (s .entry))) ⌝ }
+{
+    let mut at = first;
+    let mut i = 0;
+    while i < n {
+        if !guid_differs(s, first, step, i, at) {
+            return false;
+        }
+        at += step;
+        i += 1;
     }
     true
 }
@@ -95,12 +114,5 @@ pub fn type_guids_rule(r: &[u8], banks: usize, images: usize) -> bool
     requires { ⌜ Sized (now r) banks images ⌝ }
     ensures { λ x. ⌜ x ≡ typeGuidsRule (now (r .entry)) ⌝ }
 {
-    let mut i = 0;
-    while i < images {
-        if !guid_differs(r, banks, images, i) {
-            return false;
-        }
-        i += 1;
-    }
-    true
+    guids_differ(r, HEADER, entry_size(banks), images)
 }

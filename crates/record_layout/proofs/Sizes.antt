@@ -16,10 +16,13 @@ by-field r banks images s = rw (s .images-is) s
 pub at-most : (a b m n : ℕ) → a ≤ m → b ≤ n → a * b ≤ m * n
 at-most a b m n p q = mul-le-mul p q
 
+-- of entries that stand `step` bytes apart, each ends before the next begins
+pub step-on : (first step i n : ℕ) → i < n → first + i * step + step ≤ first + n * step
+step-on first step i n h = omega (arith, at-most (suc i) step n step (omega arith) (omega arith), suc-mul i step)
+
 -- the entry of image i ends in the record
 pub entry-in : (banks images i : ℕ) → i < images → entryAt banks i + entrySize banks ≤ recordSize banks images
-entry-in banks images i h =
-    omega (arith, at-most (suc i) (entrySize banks) images (entrySize banks) (omega arith) (omega arith), suc-mul i (entrySize banks))
+entry-in banks images i h = step-on headerSize (entrySize banks) i images h
 
 -- so does each bank's part of it
 pub bank-in : (r : List ℕ) (banks images i b : ℕ) → Sized r banks images → i < images → b < banks → entryAt banks i + 32 + 24 * b + 24 ≤ length r

@@ -5,9 +5,8 @@ use mathlib.Core.Bool.{Bool, true, cond, not, _&&_, _||_}
 use mathlib.Core.List.{List, [], _∷_}
 use lib.Dec.{eqb, leb, ltb}
 use lib.ListN.{length, drop}
-use Rattle.fields.specs.Guid.{same}
 use Rattle.record_crc.specs.Crc.{crc32Of}
-use Rattle.record_layout.specs.Every.{below}
+use Rattle.record_layout.specs.Every.{below, distinct}
 use Rattle.record_layout.specs.Layout.{imageLimit, bankLimit, versionAt, crc, version, active, previous, size, descriptorOffset}
 use Rattle.record_layout.specs.Layout.{reserved22, state, reserved28, bankCount, reserved33, imageCount, imageEntrySize, bankEntrySize}
 use Rattle.record_layout.specs.Layout.{entrySize, recordSize, typeGuid, accepted, reserved, recordOf}
@@ -58,9 +57,9 @@ banksNamedRule r = ltb (active r) (bankCount r) && ltb (previous r) (bankCount r
 unfoldable pub acceptedRule : List ℕ → Bool
 acceptedRule r = everywhere r (λ i b. leb (accepted r i b) 1)
 
--- R16: each type GUID differs from those before it
+-- R16: type GUIDs are all different
 unfoldable pub typeGuidsRule : List ℕ → Bool
-typeGuidsRule r = below (imageCount r) (λ i. below i (λ j. not (same (typeGuid r j) (typeGuid r i))))
+typeGuidsRule r = distinct (imageCount r) (typeGuid r)
 
 -- the states of a bank (R17)
 abbrev pub invalid : ℕ

@@ -4,6 +4,7 @@ use native.Mathlib.Omega.{arith}
 use Rattle.refusals.specs.Number.{numberOf}
 use Rattle.refusals.specs.declared.Refusal.{Refusal}
 use Rattle.refusals.specs.declared.Refusal.the-variants.{WindowEnd, DescriptorCount, DescriptorAddress, BlockOutside, TotalLength, TotalZero, NoPlace, CapsuleShort, CapsuleSizes, CapsuleFlags, CapsuleGuid, CapsuleBody, CapsulePayload, NoItem, AreaLength, NoSoundCopy, NotSoundAndEqual, StoreSlice, StagingFault, SessionState, NoImage, ImagesMissing, BootedBank}
+use Rattle.refusals.specs.declared.Refusal.the-variants.{DirectoryWords, DirectoryPermissions, DirectoryRoom, DirectoryShort, DirectoryHeader, DirectoryLength, DirectoryEntries}
 
 pub number-positive : (r : Refusal) → 1 ≤ numberOf r
 number-positive WindowEnd = omega arith
@@ -29,3 +30,10 @@ number-positive SessionState = omega arith
 number-positive NoImage = omega arith
 number-positive (ImagesMissing n) = omega arith
 number-positive BootedBank = omega arith
+number-positive DirectoryWords = omega arith
+number-positive DirectoryPermissions = omega arith
+number-positive DirectoryRoom = omega arith
+number-positive DirectoryShort = omega arith
+number-positive DirectoryHeader = omega arith
+number-positive DirectoryLength = omega arith
+number-positive DirectoryEntries = omega arith

@@ -1,8 +1,9 @@
--- The number of each refusal, and what it tells beside (N1 to N28, N104, N107). Assumes nothing.
+-- The number of each refusal, and what it tells beside (N1 to N46, N104, N107). Assumes nothing.
 use Prim.Native.Nat.{ℕ}
 use mathlib.Core.List.{List, [], _∷_}
 use Rattle.refusals.specs.declared.Refusal.{Refusal}
 use Rattle.refusals.specs.declared.Refusal.the-variants.{WindowEnd, DescriptorCount, DescriptorAddress, BlockOutside, TotalLength, TotalZero, NoPlace, CapsuleShort, CapsuleSizes, CapsuleFlags, CapsuleGuid, CapsuleBody, CapsulePayload, NoItem, AreaLength, NoSoundCopy, NotSoundAndEqual, StoreSlice, StagingFault, SessionState, NoImage, ImagesMissing, BootedBank}
+use Rattle.refusals.specs.declared.Refusal.the-variants.{DirectoryWords, DirectoryPermissions, DirectoryRoom, DirectoryShort, DirectoryHeader, DirectoryLength, DirectoryEntries}
 
 -- A refusal's number is that of its rule, so 24 is N24's. Beside it 27 tells how many images are missing
 abbrev pub told : Refusal → ℕ × List ℕ
@@ -29,6 +30,13 @@ told SessionState = (25, [])
 told NoImage = (26, [])
 told (ImagesMissing n) = (27, n ∷ [])
 told BootedBank = (28, [])
+told DirectoryWords = (40, [])
+told DirectoryPermissions = (41, [])
+told DirectoryRoom = (42, [])
+told DirectoryShort = (43, [])
+told DirectoryHeader = (44, [])
+told DirectoryLength = (45, [])
+told DirectoryEntries = (46, [])
 
 abbrev pub numberOf : Refusal → ℕ
 numberOf r = told r .0

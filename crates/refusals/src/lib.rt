@@ -1,4 +1,4 @@
-// Every refusal, with its number (N1 to N28).
+// Every refusal, with its number (N1 to N46).
 ghost use mathlib.Core.Path.{_≡_};
 ghost use Rattle.refusals.specs.Number.{numberOf};
 
@@ -50,6 +50,20 @@ pub enum Refusal {
     ImagesMissing(u32),
     // The booted bank is at or past the bank count.
     BootedBank,
+    // The caller's words are fewer than four for each image of the record.
+    DirectoryWords,
+    // The permissions that the caller gives for an image have one of bits 31 to 3.
+    DirectoryPermissions,
+    // The output slice is shorter than the directory.
+    DirectoryRoom,
+    // The directory is below 24 bytes.
+    DirectoryShort,
+    // A field of the directory's header is at fault.
+    DirectoryHeader,
+    // The directory's length is not that of its header and entries.
+    DirectoryLength,
+    // An entry of the directory is at fault, or two have the same type GUID.
+    DirectoryEntries,
 }
 
 impl Refusal {
@@ -81,6 +95,13 @@ impl Refusal {
             Refusal::NoImage => 26,
             Refusal::ImagesMissing(_) => 27,
             Refusal::BootedBank => 28,
+            Refusal::DirectoryWords => 40,
+            Refusal::DirectoryPermissions => 41,
+            Refusal::DirectoryRoom => 42,
+            Refusal::DirectoryShort => 43,
+            Refusal::DirectoryHeader => 44,
+            Refusal::DirectoryLength => 45,
+            Refusal::DirectoryEntries => 46,
         }
     }
 }

@@ -28,7 +28,7 @@ soundTest a = (not (soundCopy (copy0 a) || soundCopy (copy1 a)), NoSoundCopy)
 abbrev pub equalTest : (a : List ℕ) → Test
 equalTest a = (not (soundAndEqual a), NotSoundAndEqual)
 
--- what is tested before a record is read: by start-up and the report
+-- what is tested before a record is read: by start-up, the report and the writer of a directory
 unfoldable pub readTests : (a : List ℕ) → List Test
 readTests a = lengthTest a ∷ soundTest a ∷ []
 

@@ -20,8 +20,8 @@ pub enum Started {
     Refused(Refusal),
 }
 
-// What a sound record and the booted bank give.
-fn session_from(r: &[u8], booted: u32) -> Started
+// What a sound record and the booted bank give. It serves directory_writer too.
+pub fn session_from(r: &[u8], booted: u32) -> Started
     requires { ⌜ sound (now r) ≡ true ⌝ }
     ensures { λ a. ⌜ startReply a ≡ startedFrom (now (r .entry)) booted ⌝ }
 {

@@ -2,7 +2,7 @@
 //! entry's name, the seed, k.
 
 use second::answers::{answer, Account, ENTRIES};
-use second::inputs::{call_input, capsule_input, gather_input};
+use second::inputs::{call_input, capsule_input, directory_read_input, directory_write_input, gather_input};
 
 fn main() {
     let arguments: Vec<String> = std::env::args().skip(1).collect();
@@ -20,6 +20,8 @@ fn main() {
         "capsule" => capsule_input(seed, k).capsule,
         "report" => call_input(0, seed, k).area,
         "soundness" | "rules" => call_input(1, seed, k).area,
+        "directory_write" => directory_write_input(seed, k).area,
+        "directory_read" => directory_read_input(seed, k).directory,
         name => {
             let place = ENTRIES.iter().position(|&e| e == name).expect("an entry's name");
             call_input(place as u64 - 2, seed, k).area

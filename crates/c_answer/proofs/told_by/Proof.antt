@@ -12,13 +12,16 @@ use Rattle.refusals.specs.declared.Refusal.the-variants.{WindowEnd, DescriptorC
 use Rattle.refusals.specs.declared.Refusal.the-variants.{TotalZero, NoPlace, CapsuleShort, CapsuleSizes, CapsuleFlags, CapsuleGuid}
 use Rattle.refusals.specs.declared.Refusal.the-variants.{CapsuleBody, CapsulePayload, NoItem, AreaLength, NoSoundCopy, NotSoundAndEqual}
 use Rattle.refusals.specs.declared.Refusal.the-variants.{StoreSlice, StagingFault, SessionState, NoImage, ImagesMissing, BootedBank}
+use Rattle.refusals.specs.declared.Refusal.the-variants.{DirectoryWords, DirectoryPermissions, DirectoryRoom}
+use Rattle.refusals.specs.declared.Refusal.the-variants.{DirectoryShort, DirectoryHeader, DirectoryLength, DirectoryEntries}
 use Rattle.c_answer.specs.Answers.{slots}
 use Rattle.c_answer.proofs.told_by.Statement.{statement}
 use Rattle.c_answer.proofs.told_by.Tie as tie
 
 -- every case but ImagesMissing, by its place in the enum
 abbrev others : List ℕ
-others = 0 ∷ 1 ∷ 2 ∷ 3 ∷ 4 ∷ 5 ∷ 6 ∷ 7 ∷ 8 ∷ 9 ∷ 10 ∷ 11 ∷ 12 ∷ 13 ∷ 14 ∷ 15 ∷ 16 ∷ 17 ∷ 18 ∷ 19 ∷ 20 ∷ 22 ∷ []
+others = 0 ∷ 1 ∷ 2 ∷ 3 ∷ 4 ∷ 5 ∷ 6 ∷ 7 ∷ 8 ∷ 9 ∷ 10 ∷ 11 ∷ 12 ∷ 13 ∷ 14 ∷ 15 ∷ 16 ∷ 17 ∷ 18 ∷ 19 ∷ 20 ∷ 22
+    ∷ 23 ∷ 24 ∷ 25 ∷ 26 ∷ 27 ∷ 28 ∷ 29 ∷ []
 
 silent : (why : Refusal) → OneOf others (tagOf the-type why) → 0 ∷ 0 ∷ [] ≡ slots (valuesOf why)
 silent WindowEnd h = refl
@@ -44,6 +47,13 @@ silent SessionState h = refl
 silent NoImage h = refl
 silent (ImagesMissing n) h = absurd (miss others 21 Prim.tt h)
 silent BootedBank h = refl
+silent DirectoryWords h = refl
+silent DirectoryPermissions h = refl
+silent DirectoryRoom h = refl
+silent DirectoryShort h = refl
+silent DirectoryHeader h = refl
+silent DirectoryLength h = refl
+silent DirectoryEntries h = refl
 
 enum-known-why : tie.Need-enum-known-why
 enum-known-why c = search needs

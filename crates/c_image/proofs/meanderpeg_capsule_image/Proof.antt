@@ -1,8 +1,8 @@
 -- `meanderpeg_capsule_image` meets its contract: the image lies in the capsule. Assumes nothing.
 use borrow.Author.Needs.{needs}
 use Rattle.refusal_order.specs.Decide.{reply}
-use Rattle.capsule_items.specs.Items.{Lies}
-use Rattle.capsule_items.proofs.Items.{part-length}
+use Rattle.fields.specs.Part.{Lies}
+use Rattle.fields.proofs.Part.{part-length}
 use Rattle.capsule_parts.specs.Parts.{imageTold}
 use Rattle.capsule_parts.proofs.Parts.{parts-lie}
 use Rattle.c_image.proofs.meanderpeg_capsule_image.Statement.{statement}

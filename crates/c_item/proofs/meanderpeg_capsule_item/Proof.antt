@@ -8,8 +8,10 @@ use Rattle.capsule_check.specs.Verdict.{itemVerdict}
 use Rattle.capsule_check.specs.Item.{located}
 use Rattle.capsule_check.specs.declared.Item.{Item}
 use Rattle.capsule_check.proofs.Places.{told, told-judged}
-use Rattle.capsule_items.specs.Items.{Lies, itemPart}
-use Rattle.capsule_items.proofs.Items.{item-lies, part-length}
+use Rattle.fields.specs.Part.{Lies}
+use Rattle.fields.proofs.Part.{part-length}
+use Rattle.capsule_items.specs.Items.{itemPart}
+use Rattle.capsule_items.proofs.Items.{item-lies}
 use Rattle.c_item.proofs.meanderpeg_capsule_item.Statement.{statement}
 use Rattle.c_item.proofs.meanderpeg_capsule_item.Tie as tie
 

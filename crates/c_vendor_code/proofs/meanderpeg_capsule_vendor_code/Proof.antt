@@ -1,8 +1,8 @@
 -- `meanderpeg_capsule_vendor_code` meets its contract: the vendor code lies in the capsule. Assumes nothing.
 use borrow.Author.Needs.{needs}
 use Rattle.refusal_order.specs.Decide.{reply}
-use Rattle.capsule_items.specs.Items.{Lies}
-use Rattle.capsule_items.proofs.Items.{part-length}
+use Rattle.fields.specs.Part.{Lies}
+use Rattle.fields.proofs.Part.{part-length}
 use Rattle.capsule_parts.specs.Parts.{vendorCodeTold}
 use Rattle.capsule_parts.proofs.Parts.{parts-lie}
 use Rattle.c_vendor_code.proofs.meanderpeg_capsule_vendor_code.Statement.{statement}

@@ -9,7 +9,7 @@ use Rattle.capsule_check.specs.Verdict.{itemVerdict}
 use Rattle.capsule_check.specs.declared.Item.{Item}
 use Rattle.capsule_check.specs.declared.Item.the-variants.{Payload}
 use Rattle.capsule_check.proofs.Places.{told, told-judged, Holds, holds}
-use Rattle.capsule_items.proofs.Items.{part-length}
+use Rattle.fields.proofs.Part.{part-length}
 use Rattle.capsule_parts.proofs.places_of.Statement.{statement}
 use Rattle.capsule_parts.proofs.places_of.Tie as tie
 

@@ -1,55 +1,54 @@
--- `guid_differs` meets its contract. The loop's invariant: the type GUIDs below j differ from that of image i. Assumes
--- nothing.
+-- `guid_differs` meets its contract. The loop's invariant: the GUIDs below j differ from number i, and `from` is where
+-- number j stands. Assumes nothing.
 use mathlib.Core.List.{List}
 use mathlib.Core.Bool.{Bool, not}
-use Prim.Native.Nat.{ℕ, _-_}
+use Prim.Native.Nat.{ℕ, _+_, _*_, _-_, _≤_}
 use mathlib.Core.Path.{_≡_, sym, ap, _∙_}
 use native.Mathlib.Omega.{arith}
 use borrow.Author.Needs.{needs}
 use Rattle.record_layout.proofs.Below.{Passed, passed-none, passed-more, passed-stop, passed-all}
-use Rattle.record_layout.proofs.Sizes.{guid-in}
-use Rattle.record_layout.specs.Layout.{entryAt}
-use Rattle.fields.specs.Guid.{guid, same}
+use Rattle.record_layout.proofs.Sizes.{step-on}
+use Rattle.fields.specs.Guid.{guidEvery, same}
+use Rattle.record_entry_rules.proofs.Steps.{step-none, step-more}
 use Rattle.record_entry_rules.proofs.guid_differs.Statement.{statement}
 use Rattle.record_entry_rules.proofs.guid_differs.Tie as tie
 
-abbrev test : List ℕ → (banks i j : ℕ) → Bool
-test r banks i j = not (same (guid r (entryAt banks j)) (guid r (entryAt banks i)))
+abbrev test : List ℕ → (first step i j : ℕ) → Bool
+test s first step i j = not (same (guidEvery step first s j) (guidEvery step first s i))
 
 abbrev Inv-loop : tie.InvT-loop
-Inv-loop r banks images i at j₀ j = Passed (test r banks i) i j
+Inv-loop s first step i at from₀ j₀ from j = Passed (test s first step i) i j × (from ≡ first + j * step)
 
 abbrev μ-loop : tie.MeasureT-loop
-μ-loop r banks images i at j₀ j = i - j
-
-entry-at-requires : tie.Need-entry-at-requires Inv-loop μ-loop
-entry-at-requires c κs = search needs
+μ-loop s first step i at from₀ j₀ from j = i - j
 
 loop-holds : tie.Need-loop-holds Inv-loop μ-loop
-loop-holds c = passed-none
+loop-holds c = let a = c .before .args in (passed-none, step-none (a .first) (a .step))
 
-entry-at-requires-2 : tie.Need-entry-at-requires-2 Inv-loop μ-loop
-entry-at-requires-2 c κs = search needs
+-- number j ends before number i begins
+room : (t : tie.In-loop Inv-loop μ-loop)
+    → let l = t .before in let a = l .before .before .args in l .loop .from + a .step ≤ a .at
+room t =
+    let l = t .before in
+    let s = l .before .before in
+    omega (arith, step-on (s .args .first) (s .args .step) (l .loop .j) (s .args .i) (t .loop-test .taken), l .loop .inv .1, s .pre .0)
 
 same-guid-requires : tie.Need-same-guid-requires Inv-loop μ-loop
-same-guid-requires c κs =
-    let l = c .before .before in
-    let s = l .before .before .before in
-    let a = s .args in (
-      rw (c .entry-at2 .ensures .0) (guid-in (a .r .now) (a .banks) (a .images) (l .loop .j) (s .pre .0) (omega arith)),
-      rw (l .before .entry-at .ensures .0) (guid-in (a .r .now) (a .banks) (a .images) (a .i) (s .pre .0) (s .pre .1)),
-    )
+same-guid-requires c κs = let p = c .before .before .before .pre in (omega (arith, room c, p .1), p .1)
 
 -- what the comparison answered
 tested : (c : tie.After-same-guid Inv-loop μ-loop)
-    → let l = c .before .before .before in let a = l .before .before .before .args in
-    c .same-guid .result ≡ same (guid (a .r .now) (entryAt (a .banks) (l .loop .j))) (guid (a .r .now) (entryAt (a .banks) (a .i)))
-tested c = rw (← c .before .entry-at2 .ensures .0, ← c .before .before .before .before .entry-at .ensures .0) (c .same-guid .ensures)
+    → let l = c .before .before in let a = l .before .before .args in
+    c .same-guid .result ≡ same (guidEvery (a .step) (a .first) (a .s .now) (l .loop .j)) (guidEvery (a .step) (a .first) (a .s .now) (a .i))
+tested c = let l = c .before .before in rw (← l .loop .inv .1, ← l .before .before .pre .0) (c .same-guid .ensures)
 
 returns : tie.Need-returns Inv-loop μ-loop
 returns c =
-    let t = c .before .before .before in
-    sym (passed-stop (t .before .loop .inv) (t .loop-test .taken) (ap not (sym (tested (c .before)) ∙ c .if1 .taken)))
+    let t = c .before .before in
+    sym (passed-stop (t .before .loop .inv .0) (t .loop-test .taken) (ap not (sym (tested (c .before)) ∙ c .if1 .taken)))
+
+add-from : tie.Need-add-from Inv-loop μ-loop
+add-from c = let t = c .before .before in omega (arith, room t, t .before .before .before .pre .1)
 
 add-j : tie.Need-add-j Inv-loop μ-loop
 add-j c = omega arith
@@ -59,14 +58,14 @@ loop-less c = omega arith
 
 loop-again : tie.Need-loop-again Inv-loop μ-loop
 loop-again c =
-    let t = c .before .before .before in
-    passed-more (t .before .loop .inv) (t .loop-test .taken) (ap not (sym (tested (c .before)) ∙ c .if1 .left))
+    let t = c .before .before in
+    let l = t .before in
+    (passed-more (l .loop .inv .0) (t .loop-test .taken) (ap not (sym (tested (c .before)) ∙ c .if1 .left)), step-more _ _ _ (l .loop .inv .1))
 
 returns-2 : tie.Need-returns-2 Inv-loop μ-loop
-returns-2 c = sym (passed-all (c .before .loop .inv) (c .loop-test .left))
+returns-2 c = sym (passed-all (c .before .loop .inv .0) (c .loop-test .left))
 
 pub guid-differs-spec : {M : Type 1} → statement M
 guid-differs-spec =
     tie.close
-    (tie.spec Inv-loop μ-loop entry-at-requires loop-holds entry-at-requires-2 same-guid-requires returns add-j
-    loop-less loop-again returns-2)
+    (tie.spec Inv-loop μ-loop loop-holds same-guid-requires returns add-from add-j loop-less loop-again returns-2)

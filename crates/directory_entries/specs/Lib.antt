@@ -1,0 +1,2 @@
+-- The entries of the directory that is written. Assumes nothing.
+pub mod Installed

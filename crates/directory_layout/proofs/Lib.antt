@@ -1,0 +1,2 @@
+-- Laws of a directory's bytes, for the proofs in the crates above.
+pub mod Written

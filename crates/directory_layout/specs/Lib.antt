@@ -1,0 +1,2 @@
+-- The image directory: what it holds, and its bytes. Assumes nothing.
+pub mod Layout

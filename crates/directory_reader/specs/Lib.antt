@@ -1,0 +1,2 @@
+-- The reader of an image directory. Assumes nothing.
+pub mod Reader

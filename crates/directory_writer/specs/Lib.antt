@@ -1,0 +1,2 @@
+-- The writer of an image directory. Assumes nothing.
+pub mod Writer

@@ -1,0 +1,2 @@
+-- What is written is read back, and the other way round. Assumes nothing.
+pub mod RoundTrip
