@@ -1,5 +1,6 @@
-/* Meanderpeg: gathers a UEFI capsule that lies scattered in memory, checks it and hands out its parts, and keeps the
- * Arm A/B record (DEN0118, metadata version 2) that says which bank of firmware images is started.
+/* Meanderpeg: gathers a UEFI capsule that lies scattered in memory, checks it and hands out its parts; keeps the Arm
+ * A/B record (DEN0118, metadata version 2) that says which bank of firmware images is started; and writes and reads the
+ * image directory (DEN0118, version 2) that tells a client what is installed.
  *
  * Link target/staticlib/libmeanderpeg.a, which `c/library` writes. What each function answers, and every byte behind
  * its pointers at return, is proved for all inputs that keep to WHAT THE CALLER SEES TO (crates/c_*); docs/RULES.md
@@ -80,7 +81,7 @@
  *
  *   - No pointer is null, not even one whose length is 0. A pointer and the length behind it are memory that is there
  *     and has been written, also where the call is to write it: `struct meanderpeg_part part = {0};`. A length counts
- *     bytes, for stores numbers of 32 bits.
+ *     bytes, for stores and words numbers of 32 bits.
  *   - What is passed for writing (a pointer without const) shares no byte with anything else passed to the same call.
  *     Nobody else, no device either, writes what is passed before the call returns. Numbers and structs are aligned as
  *     C asks.
@@ -125,9 +126,9 @@
 #include <stdint.h>
 
 #define MEANDERPEG_VERSION_MAJOR 0
-#define MEANDERPEG_VERSION_MINOR 2
+#define MEANDERPEG_VERSION_MINOR 3
 #define MEANDERPEG_VERSION_PATCH 0
-#define MEANDERPEG_VERSION "0.2.0"
+#define MEANDERPEG_VERSION "0.3.0"
 
 /* ---- Whether the archive fits, and what this compiler knows ---- */
 
@@ -204,7 +205,17 @@ enum meanderpeg_refusal {
     MEANDERPEG_SESSION_STATE = 25,       /* not a session for this call; or the previous bank is not accepted */
     MEANDERPEG_NO_IMAGE = 26,            /* the record has no image of that type GUID */
     MEANDERPEG_IMAGES_MISSING = 27,      /* images not yet committed; told[0] has how many */
-    MEANDERPEG_BOOTED_BANK = 28          /* the record has no bank of that number */
+    MEANDERPEG_BOOTED_BANK = 28,         /* the record has no bank of that number */
+    /* directories: of the writer 20, 21, 28, then 40, 41, 42; of the reader 43 to 46: the first that applies */
+    MEANDERPEG_DIRECTORY_WORDS = 40,       /* fewer than four words for each image of the record */
+    MEANDERPEG_DIRECTORY_PERMISSIONS = 41, /* permissions of one of the record's images have one of bits 31 to 3 */
+    MEANDERPEG_DIRECTORY_ROOM = 42,        /* fewer bytes of room than 24 + 40 * images */
+    MEANDERPEG_DIRECTORY_SHORT = 43,       /* below 24 bytes */
+    MEANDERPEG_DIRECTORY_HEADER = 44,      /* version not 2, array offset not 24, entry size not 40, images not 1 to 32,
+                                              correct_boot above 1, or the reserved field not 0 */
+    MEANDERPEG_DIRECTORY_LENGTH = 45,      /* not 24 + 40 * images bytes: also where more are given than were written */
+    MEANDERPEG_DIRECTORY_ENTRIES = 46      /* an entry's permissions have one of bits 31 to 3, its accepted flag is
+                                              above 1 or its reserved field not 0; or two type GUIDs are equal */
 };
 
 /* A zeroed struct is no session: every call refuses it, and a kind above 5, by 25, where 20 to 23 do not apply. */
@@ -223,11 +234,23 @@ enum meanderpeg_request {
     MEANDERPEG_IMAGE_UNACCEPTED = 1 /* on trial, after a restart into its bank, until meanderpeg_accept */
 };
 
+/* What a client may do with an image: the bits of an image's permissions in its directory, added up. */
+enum meanderpeg_permission {
+    MEANDERPEG_PERMISSION_WRITE = 1,
+    MEANDERPEG_PERMISSION_READ = 2,
+    MEANDERPEG_PERMISSION_ACTIVATE_FIRST = 4 /* it must be activated before it can be accepted; without this bit it can
+                                                be accepted at any point of the trial */
+};
+
 enum {
     MEANDERPEG_AREA_BYTES = 16384,
     MEANDERPEG_STORE_NUMBERS = 4200, /* as many numbers as `stores` must hold: 2,100 pairs, 16,800 bytes */
     MEANDERPEG_REPORT_BYTES = 4096,  /* as many bytes as `text` must hold */
-    MEANDERPEG_GUID_BYTES = 16       /* as stored: the first three fields little-endian; compared byte by byte */
+    MEANDERPEG_GUID_BYTES = 16,      /* as stored: the first three fields little-endian; compared byte by byte */
+    MEANDERPEG_DIRECTORY_HEADER_BYTES = 24,
+    MEANDERPEG_DIRECTORY_ENTRY_BYTES = 40,
+    MEANDERPEG_DIRECTORY_BYTES = 1304,   /* the longest directory, 24 + 40 * 32: room for every one */
+    MEANDERPEG_DIRECTORY_IMAGE_WORDS = 4 /* as many words as meanderpeg_directory_write wants for each image */
 };
 
 /* ---- Structs ---- */
@@ -242,7 +265,7 @@ struct meanderpeg_counts {
     size_t payloads;
 };
 
-/* a part of a capsule: capsule + start has `length` bytes of it, at any alignment */
+/* a part of a capsule, or of a directory: capsule + start has `length` bytes of it, at any alignment */
 struct meanderpeg_part {
     size_t start;
     size_t length;
@@ -261,6 +284,20 @@ struct meanderpeg_answer {
     struct meanderpeg_session session; /* the next one; with a refusal the one given. Repair, and a refused start-up,
                                           have none to give: all 0 */
     size_t pairs;                      /* how many stores are listed; 0 with a refusal */
+};
+
+struct meanderpeg_directory {
+    uint32_t images;       /* how many entries there are: 1 to 32 */
+    uint32_t correct_boot; /* 1 if the machine runs from the active bank, 0 if from another one */
+};
+
+/* an entry of a directory, but for its type GUID */
+struct meanderpeg_directory_numbers {
+    uint32_t permissions;             /* bits of enum meanderpeg_permission; bits 31 to 3 are zero */
+    uint32_t maximum_size;            /* of an image that can be installed, in bytes */
+    uint32_t lowest_accepted_version; /* an older one may not run here */
+    uint32_t version;                 /* in the bank that was started, as is `accepted` */
+    uint32_t accepted;                /* 0 or 1 */
 };
 
 /* ---- Gathering ----
@@ -403,6 +440,51 @@ MEANDERPEG_FUNCTION struct meanderpeg_answer meanderpeg_select_previous(struct m
                                                                         uint32_t *stores, size_t stores_length)
     MEANDERPEG_READS(2) MEANDERPEG_WRITES(4);
 
+/* ---- The image directory ----
+ * What is installed, for a client that is to update this machine: a header of 24 bytes with the image count and
+ * correct_boot, then an entry of 40 bytes for each image of the record, in the record's order. It is no part of the
+ * area: whoever is asked for it writes it into memory, by the record as it is then, and hands the bytes on. */
+
+/* Writes the directory to the front of `directory`, which has `room` bytes, and sets `length` to how many were written:
+ * 24 + 40 * images. Every byte past them stays. With MEANDERPEG_DIRECTORY_BYTES of room there is always enough.
+ * `booted` is as for meanderpeg_start_up, and one sound copy of the record is enough here too.
+ *
+ * `words` is what the record does not tell: four numbers for each of its images, in its order; words_length counts
+ * numbers.
+ *   words[4 * i]      permissions of image i, of enum meanderpeg_permission: bit 0 write, bit 1 read, bit 2 the image
+ *                     must be activated before it can be accepted, bits 31 to 3 zero
+ *   words[4 * i + 1]  the maximum size of an image, in bytes
+ *   words[4 * i + 2]  the lowest version that is accepted
+ *   words[4 * i + 3]  the version of the image in bank `booted`
+ * Words past those of the last image are not looked at. From the record come the type GUIDs, and the accepted flags as
+ * they are in bank `booted`. correct_boot is 0 exactly where meanderpeg_start_up gives Fallback; in Trial it is 1.
+ *
+ * Refusals 20, 21 and 28, as start-up gives them, then 40, 41, 42. */
+MEANDERPEG_FUNCTION uint32_t meanderpeg_directory_write(const uint8_t *area, size_t area_length, uint32_t booted,
+                                                        const uint32_t *words, size_t words_length,
+                                                        uint8_t *directory, size_t room, size_t *length)
+    MEANDERPEG_READS(1) MEANDERPEG_READS(4) MEANDERPEG_WRITES(6) MEANDERPEG_SETS(8);
+
+/* The reader. `directory_length` is how many bytes were written, exactly: with the whole room of a longer buffer the
+ * answer is 45. Each function checks the whole directory before it answers, so none needs another called first. What is
+ * behind the last pointer is set where the answer is 0; with a refusal it stays as it was: initialise it to {0}. Nobody
+ * else writes the directory until its parts have been used. Refusals of all: 43 to 46. */
+
+/* How many images there are, and correct_boot. */
+MEANDERPEG_FUNCTION uint32_t meanderpeg_directory_check(const uint8_t *directory, size_t directory_length,
+                                                        struct meanderpeg_directory *shown)
+    MEANDERPEG_READS(1) MEANDERPEG_SETS(3);
+
+/* Of an entry, counted from 0: where its type GUID is (directory + part->start has its 16 bytes), and its five numbers.
+ * An entry at or past the image count is no refusal: the answer is 0, with the empty part at start 0, or with zeros. So
+ * compare `entry` with the count of meanderpeg_directory_check first. */
+MEANDERPEG_FUNCTION uint32_t meanderpeg_directory_type_guid(const uint8_t *directory, size_t directory_length,
+                                                            size_t entry, struct meanderpeg_part *part)
+    MEANDERPEG_READS(1) MEANDERPEG_SETS(4);
+MEANDERPEG_FUNCTION uint32_t meanderpeg_directory_numbers(const uint8_t *directory, size_t directory_length,
+                                                          size_t entry, struct meanderpeg_directory_numbers *numbers)
+    MEANDERPEG_READS(1) MEANDERPEG_SETS(4);
+
 /* ---- Refusals in words ---- */
 
 static inline const char *meanderpeg_refusal_text(uint32_t refusal) {
@@ -431,6 +513,13 @@ static inline const char *meanderpeg_refusal_text(uint32_t refusal) {
     case MEANDERPEG_NO_IMAGE: return "the record has no image of that type GUID";
     case MEANDERPEG_IMAGES_MISSING: return "not every image has been committed";
     case MEANDERPEG_BOOTED_BANK: return "the record has no bank of the number that was started";
+    case MEANDERPEG_DIRECTORY_WORDS: return "there are fewer than four words for each image of the record";
+    case MEANDERPEG_DIRECTORY_PERMISSIONS: return "permissions of an image have one of bits 31 to 3";
+    case MEANDERPEG_DIRECTORY_ROOM: return "the room is too short for the directory";
+    case MEANDERPEG_DIRECTORY_SHORT: return "the directory is shorter than 24 bytes";
+    case MEANDERPEG_DIRECTORY_HEADER: return "a field of the directory's header is at fault";
+    case MEANDERPEG_DIRECTORY_LENGTH: return "the directory's length is not that of its header and entries";
+    case MEANDERPEG_DIRECTORY_ENTRIES: return "an entry of the directory is at fault, or two have one type GUID";
     default: return "no such refusal";
     }
 }

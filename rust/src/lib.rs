@@ -1,5 +1,6 @@
 //! Meanderpeg for Rust: firmware update code that is proved. It gathers a UEFI capsule that lies scattered in memory,
-//! checks it, and keeps the Arm A/B update record (DEN0118), so that power may fail at any store.
+//! checks it, and keeps the Arm A/B update record (DEN0118), so that power may fail at any store; and it writes and
+//! reads the image directory that tells a client what is installed.
 //!
 //! What each function of the linked library answers, and every byte that it leaves, is proved for all inputs that
 //! Rust's references allow. What this package adds is the change from numbers to types, which its tests compare with a
@@ -14,6 +15,7 @@
 //! - [`start_up`] and [`repair`] come after every start of the device, and the six calls of [`Session`] make an update.
 //!   Each call's [`Answer`] lists stores, and the next session is had by performing them.
 //! - [`soundness`] and [`report`] tell what an area holds.
+//! - [`write_directory`] writes the image directory of what is installed, and [`Directory::read`] reads one.
 //!
 //! # An update
 //!
@@ -97,6 +99,7 @@
 extern crate std;
 
 mod capsule;
+mod directory;
 mod gather;
 mod guid;
 #[cfg(test)]
@@ -111,6 +114,7 @@ mod session;
 mod store;
 
 pub use capsule::{Capsule, Item, ItemKind};
+pub use directory::{write_directory, Directory, Entry, ImageWords, Permissions};
 pub use gather::{gather, Gathered};
 pub use guid::{Guid, GuidTextFault};
 pub use record::{report, soundness, Soundness};
@@ -124,3 +128,9 @@ pub const AREA_BYTES: usize = 16_384;
 pub const STORE_NUMBERS: usize = 4_200;
 /// So many bytes hold every report.
 pub const REPORT_BYTES: usize = 4_096;
+/// How many bytes a directory's header has.
+pub const DIRECTORY_HEADER_BYTES: usize = 24;
+/// How many bytes a directory has for each image.
+pub const DIRECTORY_ENTRY_BYTES: usize = 40;
+/// So many bytes hold every directory: the header and 32 entries.
+pub const DIRECTORY_BYTES: usize = 1_304;

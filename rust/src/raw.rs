@@ -4,7 +4,7 @@
 //! What the library asks of a caller is what Rust's references grant: a slice's pointer is never null, its bytes are
 //! there, and what is lent for writing is lent to nobody else. So each call below is sound for any arguments.
 
-use crate::Store;
+use crate::{ImageWords, Store};
 
 /// `struct meanderpeg_gathered`.
 #[derive(Clone, Copy, PartialEq, Eq, Debug)]
@@ -49,6 +49,25 @@ pub struct Answer {
     pub pairs: usize,
 }
 
+/// `struct meanderpeg_directory`.
+#[derive(Clone, Copy, PartialEq, Eq, Debug)]
+#[repr(C)]
+pub struct Directory {
+    pub images: u32,
+    pub correct_boot: u32,
+}
+
+/// `struct meanderpeg_directory_numbers`.
+#[derive(Clone, Copy, PartialEq, Eq, Debug)]
+#[repr(C)]
+pub struct DirectoryNumbers {
+    pub permissions: u32,
+    pub maximum_size: u32,
+    pub lowest_accepted_version: u32,
+    pub version: u32,
+    pub accepted: u32,
+}
+
 /// The library's functions have the convention of the System V ABI. "C" is that on all targets for x86-64 but those
 /// whose convention is Microsoft's.
 macro_rules! declare {
@@ -61,7 +80,7 @@ macro_rules! declare {
 }
 
 mod library {
-    use super::{Answer, Counts, Gathered, Part, Session};
+    use super::{Answer, Counts, Directory, DirectoryNumbers, Gathered, Part, Session};
 
     declare! {
         pub fn meanderpeg_gather(
@@ -164,6 +183,34 @@ mod library {
             stores: *mut u32,
             stores_length: usize,
         ) -> Answer;
+
+        pub fn meanderpeg_directory_write(
+            area: *const u8,
+            area_length: usize,
+            booted: u32,
+            words: *const u32,
+            words_length: usize,
+            directory: *mut u8,
+            room: usize,
+            length: *mut usize,
+        ) -> u32;
+        pub fn meanderpeg_directory_check(
+            directory: *const u8,
+            directory_length: usize,
+            shown: *mut Directory,
+        ) -> u32;
+        pub fn meanderpeg_directory_type_guid(
+            directory: *const u8,
+            directory_length: usize,
+            entry: usize,
+            part: *mut Part,
+        ) -> u32;
+        pub fn meanderpeg_directory_numbers(
+            directory: *const u8,
+            directory_length: usize,
+            entry: usize,
+            numbers: *mut DirectoryNumbers,
+        ) -> u32;
     }
 }
 
@@ -172,6 +219,12 @@ pub fn stores_of(numbers: &[u32], pairs: usize) -> Option<&[Store]> {
     let listed = numbers.get(..pairs.checked_mul(2)?)?;
     // Sound: `Store` is two numbers of 32 bits with no gap, so `pairs` of them are these 2 * pairs numbers.
     Some(unsafe { core::slice::from_raw_parts(listed.as_ptr().cast::<Store>(), pairs) })
+}
+
+/// The words of images as the numbers that they are.
+pub fn words_of(images: &[ImageWords]) -> &[u32] {
+    // Sound: `ImageWords` is four numbers of 32 bits with no gap, so its bytes divided by 4 are so many numbers.
+    unsafe { core::slice::from_raw_parts(images.as_ptr().cast::<u32>(), core::mem::size_of_val(images) / 4) }
 }
 
 pub fn gather(window: &mut [u8], base: u64, first: u64, gathered: &mut Gathered) -> u32 {
@@ -250,4 +303,23 @@ pub fn accept(session: Session, area: &[u8], guid: &[u8; 16], stores: &mut [u32]
 pub fn select_previous(session: Session, area: &[u8], stores: &mut [u32]) -> Answer {
     let (list, numbers) = (stores.as_mut_ptr(), stores.len());
     unsafe { library::meanderpeg_select_previous(session, area.as_ptr(), area.len(), list, numbers) }
+}
+
+pub fn directory_write(area: &[u8], booted: u32, words: &[u32], directory: &mut [u8], length: &mut usize) -> u32 {
+    let (given, count, written, room) = (words.as_ptr(), words.len(), directory.as_mut_ptr(), directory.len());
+    unsafe {
+        library::meanderpeg_directory_write(area.as_ptr(), area.len(), booted, given, count, written, room, length)
+    }
+}
+
+pub fn directory_check(directory: &[u8], shown: &mut Directory) -> u32 {
+    unsafe { library::meanderpeg_directory_check(directory.as_ptr(), directory.len(), shown) }
+}
+
+pub fn directory_type_guid(directory: &[u8], entry: usize, part: &mut Part) -> u32 {
+    unsafe { library::meanderpeg_directory_type_guid(directory.as_ptr(), directory.len(), entry, part) }
+}
+
+pub fn directory_numbers(directory: &[u8], entry: usize, numbers: &mut DirectoryNumbers) -> u32 {
+    unsafe { library::meanderpeg_directory_numbers(directory.as_ptr(), directory.len(), entry, numbers) }
 }

@@ -1,12 +1,14 @@
 //! What the types of this package don't let a caller see or give: the numbers behind pointers after a refusal, sessions
-//! that are none, and requests above 1. Each of the library's functions against the second implementation, on inputs of
-//! another seed than those of tests/against_second.rs.
+//! that are none, requests above 1, words that are not four for an image, and entries past a directory's count. Each of
+//! the library's functions against the second implementation, on inputs of another seed than those of
+//! tests/against_second.rs.
 
 use crate::raw;
 use crate::STORE_NUMBERS;
 use second::answers::call_answer;
 use second::capsule as plain_capsule;
-use second::inputs::{call_input, capsule_input, gather_input, CallInput};
+use second::directory as plain_directory;
+use second::inputs::{call_input, capsule_input, directory_read_input, directory_write_input, gather_input, CallInput};
 use second::session::{self as plain, session_words};
 use second::stores::apply;
 use std::vec;
@@ -175,6 +177,48 @@ fn accept() {
 #[test]
 fn select_previous() {
     calls(7);
+}
+
+#[test]
+fn directory_write() {
+    for k in 0..INPUTS {
+        let input = directory_write_input(SEED, k);
+        let (mut room, mut wanted_room) = (vec![9; input.room], vec![9; input.room]);
+        let mut length = 77;
+        let number = raw::directory_write(&input.area, input.booted, &input.words, &mut room, &mut length);
+        let wanted = plain_directory::directory_write(&input.area, input.booted, &input.words, &mut wanted_room);
+        let wanted_length = wanted.unwrap_or(77) as usize;
+        assert_eq!((number, length), (wanted.err().unwrap_or(0), wanted_length), "input {k}");
+        assert!(room == wanted_room, "input {k}");
+    }
+}
+
+#[test]
+fn directory_read() {
+    let mut past = 0;
+    for k in 0..INPUTS {
+        let input = directory_read_input(SEED, k);
+        let (directory, entry) = (&input.directory[..], input.entry as usize);
+        let number = plain_directory::directory_refusal(directory);
+        let mut shown = raw::Directory { images: 77, correct_boot: 88 };
+        let found = raw::directory_check(directory, &mut shown);
+        let (images, correct_boot) = plain_directory::directory_check(directory).unwrap_or((77, 88));
+        assert_eq!((found, shown), (number, raw::Directory { images, correct_boot }), "input {k}");
+        let mut part = raw::Part { start: 77, length: 88 };
+        let found = raw::directory_type_guid(directory, entry, &mut part);
+        let place = plain_directory::directory_type_guid(directory, input.entry).unwrap_or((77, 88));
+        assert_eq!((found, part.start as u64, part.length as u64), (number, place.0, place.1), "input {k}");
+        let of = |five: [u32; 5]| {
+            let [permissions, maximum_size, lowest_accepted_version, version, accepted] = five;
+            raw::DirectoryNumbers { permissions, maximum_size, lowest_accepted_version, version, accepted }
+        };
+        let mut numbers = of([71, 72, 73, 74, 75]);
+        let found = raw::directory_numbers(directory, entry, &mut numbers);
+        let wanted = plain_directory::directory_numbers(directory, input.entry).unwrap_or([71, 72, 73, 74, 75]);
+        assert_eq!((found, numbers), (number, of(wanted)), "input {k}");
+        past += (number == 0 && place == (0, 0)) as u64;
+    }
+    assert!(past > 50, "{past} entries past the count");
 }
 
 /// Pairs that a slice does not hold are none, also where their count times two is no number.

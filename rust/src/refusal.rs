@@ -58,6 +58,20 @@ pub enum Refusal {
     ImagesMissing(u32),
     /// 28: the record has no bank of the booted one's number.
     BootedBank,
+    /// 40: the record has more images than there are [`ImageWords`](crate::ImageWords).
+    DirectoryWords,
+    /// 41: the permissions given for one of the record's images have one of bits 31 to 3.
+    DirectoryPermissions,
+    /// 42: the room has less bytes than the directory, 24 and 40 for each image.
+    DirectoryRoom,
+    /// 43: the directory has less than 24 bytes.
+    DirectoryShort,
+    /// 44: the header isn't that of a directory of version 2 with 1 to 32 images.
+    DirectoryHeader,
+    /// 45: the directory's length isn't that of its header and entries: also where there is a byte more.
+    DirectoryLength,
+    /// 46: an entry's permissions, accepted flag or reserved field can't be, or two entries have the same type GUID.
+    DirectoryEntries,
     /// A number that has no name in this version of the package, as an archive of another version may answer; 0 if that
     /// archive refused nothing, but what it answered can't be.
     Unknown(u32),
@@ -65,7 +79,7 @@ pub enum Refusal {
 
 /// Each number with its case and its words, which are those of `meanderpeg_refusal_text` in C. 27's count is put in by
 /// `of`.
-const TABLE: [(u32, Refusal, &str); 23] = [
+const TABLE: [(u32, Refusal, &str); 30] = [
     (1, Refusal::WindowEnd, "the window ends above 2^64"),
     (2, Refusal::DescriptorCount, "the list has more than 256 descriptors"),
     (3, Refusal::DescriptorAddress, "a descriptor is not at a multiple of 8 or not wholly in the window"),
@@ -89,6 +103,13 @@ const TABLE: [(u32, Refusal, &str); 23] = [
     (26, Refusal::NoImage, "the record has no image of that type GUID"),
     (27, Refusal::ImagesMissing(0), "not every image has been committed"),
     (28, Refusal::BootedBank, "the record has no bank of the number that was started"),
+    (40, Refusal::DirectoryWords, "there are fewer than four words for each image of the record"),
+    (41, Refusal::DirectoryPermissions, "permissions of an image have one of bits 31 to 3"),
+    (42, Refusal::DirectoryRoom, "the room is too short for the directory"),
+    (43, Refusal::DirectoryShort, "the directory is shorter than 24 bytes"),
+    (44, Refusal::DirectoryHeader, "a field of the directory's header is at fault"),
+    (45, Refusal::DirectoryLength, "the directory's length is not that of its header and entries"),
+    (46, Refusal::DirectoryEntries, "an entry of the directory is at fault, or two have one type GUID"),
 ];
 
 impl Refusal {

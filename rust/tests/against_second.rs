@@ -78,3 +78,13 @@ fn soundness() {
 fn report() {
     agrees("report");
 }
+
+#[test]
+fn directory_write() {
+    agrees("directory_write");
+}
+
+#[test]
+fn directory_read() {
+    agrees("directory_read");
+}

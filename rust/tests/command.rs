@@ -6,6 +6,7 @@
 #[path = "command/transcript.rs"]
 mod transcript;
 
+use second::directory::directory_write;
 use second::inputs::Draw;
 use second::make::{
     make_area, make_capsule, make_record, payload, plan, put_descriptor, record_bytes, CapsulePlan, RecordPlan,
@@ -44,7 +45,15 @@ fn sample_area(banks: usize, images: usize) -> Vec<u8> {
     make_area(&record, &record, 9)
 }
 
-const HELP: [&str; 10] = [
+/// Bank 0 accepted, bank 1 on trial with image 1 unaccepted, bank 2 invalid.
+fn trial_area() -> Vec<u8> {
+    let states =
+        RecordPlan { states: [252, 254, 255, 255], accepted: [3, 1, 2, 0], active: 1, previous: 0, ..plan(3, 2) };
+    let record = record_bytes(&states);
+    make_area(&record, &record, 9)
+}
+
+const HELP: [&str; 13] = [
     "--help",
     "--version",
     "capsule --help",
@@ -55,10 +64,13 @@ const HELP: [&str; 10] = [
     "record update --help",
     "record report --help",
     "record make --help",
+    "directory --help",
+    "directory write --help",
+    "directory show --help",
 ];
 
 /// Lines that fit no subcommand, or not theirs.
-const WRONG: [&str; 29] = [
+const WRONG: [&str; 35] = [
     "",
     "help",
     "capsule",
@@ -88,6 +100,12 @@ const WRONG: [&str; 29] = [
     "record update a.area begin --stores 1 --dry-run",
     "record update a.area commit a3a2a1a0-a5a4-a7a6-a8a9-aaabacadae00 perhaps",
     "record update a.area reset",
+    "directory",
+    "directory show",
+    "directory show a b",
+    "directory write a.area 0 words",
+    "directory write a.area one words out",
+    "directory write a.area 0x100000000 words out",
 ];
 
 #[test]
@@ -172,11 +190,7 @@ fn gathering() {
 #[test]
 fn records_shown() {
     let mut program = Transcript::new("show");
-    // Bank 0 accepted, bank 1 on trial with image 1 unaccepted, bank 2 invalid.
-    let states =
-        RecordPlan { states: [252, 254, 255, 255], accepted: [3, 1, 2, 0], active: 1, previous: 0, ..plan(3, 2) };
-    let record = record_bytes(&states);
-    let area = make_area(&record, &record, 9);
+    let area = trial_area();
     program.write("a.area", &area);
     program.run("record show a.area");
     program.run("record report a.area");
@@ -225,6 +239,114 @@ fn records_made() {
         assert!(program.read(&file)[made.len()..8_192].iter().all(|&byte| byte == 0xFF));
         let words = [words, vec!["--image".into(), GUID_0.replace("a3", "00").into()]].concat();
         assert_eq!(program.quietly(&words).status, if images == 32 { 2 } else { 3 });
+    }
+    program.compare();
+}
+
+/// A line for each image, with all that such a file may have.
+const WORDS: &str = "# what is installed\n\n0x3 0x100000 2 5 # write read\n\t4  65536\t0 4294967295\r\n\n";
+
+#[test]
+fn directories() {
+    let mut program = Transcript::new("directory");
+    let area = trial_area();
+    program.write("a.area", &area);
+    program.write("words.txt", WORDS.as_bytes());
+    let mut wanted = [0; 104];
+    for booted in [1, 0] {
+        program.run(&format!("directory write a.area {booted} words.txt a.directory"));
+        directory_write(&area, booted, &[3, 0x10_0000, 2, 5, 4, 65_536, 0, u32::MAX], &mut wanted).expect("written");
+        assert_eq!(program.read("a.directory"), wanted);
+        program.run("directory show a.directory");
+    }
+    program.write("all.txt", b"0 0 0 0\n7 0xffffffff 0xffffffff 0xffffffff\n9 0 0 0 # past the last image\n");
+    program.run("directory write a.area 0 all.txt all.directory");
+    program.run("directory show all.directory");
+    assert_eq!(program.read("a.area"), area);
+    program.compare();
+}
+
+#[test]
+fn directories_refused() {
+    let mut program = Transcript::new("directory_refused");
+    let area = trial_area();
+    let mut none = area.clone();
+    (none[4], none[8_192 + 4]) = (0, 0);
+    program.write("a.area", &area);
+    program.write("none.area", &none);
+    program.write("short.area", &area[1..]);
+    program.write("words.txt", WORDS.as_bytes());
+    program.write("few.txt", b"# image 1 is missing\n3 1 1 1\n");
+    program.write("wrong.txt", b"3 1 1 1\n8 1 1 1\n");
+    let refused = |run: Run, number: u32| assert!(run.err.starts_with(&format!("refusal {number}: ")), "{}", run.err);
+    refused(program.run("directory write short.area 3 few.txt out"), 20);
+    refused(program.run("directory write none.area 3 few.txt out"), 21);
+    refused(program.run("directory write a.area 3 few.txt out"), 28);
+    refused(program.run("directory write a.area 1 few.txt out"), 40);
+    refused(program.run("directory write a.area 1 wrong.txt out"), 41);
+    assert!(!program.path("out").exists());
+    program.run("directory write a.area 1 words.txt a.directory");
+    let directory = program.read("a.directory");
+    for (number, at, byte, length) in [(43, 0, 2, 23), (44, 0, 1, 104), (45, 0, 2, 103), (46, 40, 8, 104)] {
+        let mut faulty = directory.clone();
+        faulty[at] = byte;
+        program.write("faulty.directory", &faulty[..length]);
+        refused(program.run("directory show faulty.directory"), number);
+    }
+    program.write("long.directory", &[&directory[..], &[0; 9_000]].concat());
+    refused(program.run("directory show long.directory"), 45);
+    refused(program.run("directory show /dev/zero"), 44);
+    refused(program.run("directory show /dev/null"), 43);
+    // With a refusal what is there stays.
+    refused(program.run("directory write a.area 1 wrong.txt a.directory"), 41);
+    assert_eq!(program.read("a.directory"), directory);
+    program.compare();
+}
+
+/// Words that are none, with the line that is at fault, and places that cannot be written. Nothing is left beside OUT.
+#[test]
+fn directory_files_at_fault() {
+    let mut program = Transcript::new("directory_files");
+    program.write("a.area", &trial_area());
+    program.write("words.txt", WORDS.as_bytes());
+    program.write("out", b"as it was");
+    fs::create_dir(program.path("folder")).expect("a folder");
+    std::os::unix::fs::symlink("out", program.path("link")).expect("a link");
+    let faults: [&[u8]; 9] = [
+        b"1 2 3\n",
+        b"# image 0\n1 2 3 4\n\n1 2 3 4 5\n",
+        b"1 2 3 4\n1 2 3 many",
+        b"1 2 3 4294967296\n",
+        b"1 2 3 0x\n",
+        b"-1 2 3 4\n",
+        b"1, 2, 3, 4\n",
+        b"1 2 3 4\n\n\xff\n",
+        &[b' '; 65_537],
+    ];
+    for fault in faults {
+        program.write("faulty.txt", fault);
+        assert_eq!(program.run("directory write a.area 1 faulty.txt out").status, 3);
+    }
+    let listed = || {
+        let files = fs::read_dir(&program.folder).expect("the folder").map(|file| file.expect("a file").file_name());
+        let mut files: Vec<OsString> = files.collect();
+        files.sort();
+        files
+    };
+    let before = listed();
+    let places = ["nowhere/out", "folder", "link", "/dev/null", ""];
+    let words = |place: &str| ["directory", "write", "a.area", "1", "words.txt", place].map(OsString::from);
+    for place in places {
+        assert_eq!(program.quietly(&words(place)).status, 3, "{place:?}");
+    }
+    assert_eq!((listed(), program.read("out")), (before.clone(), b"as it was".to_vec()));
+    assert_eq!(program.quietly(&words("out")).status, 0);
+    assert_eq!((listed(), program.read("out").len()), (before, 104));
+    for line in ["write nowhere 1 words.txt out", "write a.area 1 nowhere out", "show nowhere", "show folder"] {
+        assert_eq!(program.run(&format!("directory {line}")).status, 3);
+    }
+    for place in &places[..4] {
+        program.run(&format!("directory write a.area 1 words.txt {place}"));
     }
     program.compare();
 }
@@ -402,7 +524,7 @@ fn session_files() {
 }
 
 /// Lines for a file that may hold anything.
-const ON_ANY_FILE: [&str; 12] = [
+const ON_ANY_FILE: [&str; 15] = [
     "capsule list f",
     "capsule extract f 1 out",
     "gather f 0 0",
@@ -415,6 +537,9 @@ const ON_ANY_FILE: [&str; 12] = [
     "record update f end --stores 3",
     "record update f select-previous",
     "record update f accept a3a2a1a0-a5a4-a7a6-a8a9-aaabacadae00 --stores 0",
+    "directory show f",
+    "directory write f 1 words out",
+    "directory write f 0 f out",
 ];
 
 /// Whatever a file holds and whatever the words are, the program ends with one of its statuses and does not panic,
@@ -422,7 +547,11 @@ const ON_ANY_FILE: [&str; 12] = [
 #[test]
 fn odd_inputs() {
     let program = Transcript::new("odd");
-    let samples = [make_capsule(&sample_plan()), sample_area(2, 1), sample_area(4, 32), vec![0; 300], vec![]];
+    let mut directory = vec![0; 64];
+    directory_write(&sample_area(2, 1), 0, &[7, 1, 2, 3], &mut directory).expect("written");
+    program.write("words", &b"7 1 2 3\n".repeat(32));
+    let [small, large] = [sample_area(2, 1), sample_area(4, 32)];
+    let samples = [make_capsule(&sample_plan()), small, large, directory, vec![0; 300], vec![]];
     for k in 0..600 {
         let mut draw = Draw::start(31, 5, k);
         let mut bytes = samples[draw.below(samples.len() as u64) as usize].clone();

@@ -39,10 +39,10 @@ fn statements(code: &str) -> Vec<(String, String)> {
     found
 }
 
-/// `struct meanderpeg_part` is `Part` in src/raw.rs.
+/// `struct meanderpeg_directory_numbers` is `DirectoryNumbers` in src/raw.rs.
 fn struct_name(c: &str) -> String {
-    let name = c.trim_start_matches("meanderpeg_");
-    name[..1].to_uppercase() + &name[1..]
+    let words = c.trim_start_matches("meanderpeg_").split('_');
+    words.map(|word| word[..1].to_uppercase() + &word[1..]).collect()
 }
 
 /// The name and the Rust type of a parameter, a field or, without a name, an answer.
@@ -125,11 +125,11 @@ fn bindings_are_those_of_the_header() {
     let (header, bindings) = (plain_c(&read("../include/meanderpeg.h")), read("src/raw.rs"));
     let functions = functions_of_header(&header);
     assert_eq!(functions_of_bindings(&bindings), functions);
-    assert_eq!(functions.len(), 18, "functions");
+    assert_eq!(functions.len(), 22, "functions");
     let structs = structs_of_header(&header);
     assert_eq!(structs_of_bindings(&bindings), structs);
-    assert_eq!(structs.len(), 5, "structs");
-    assert_eq!(bindings.matches("pub struct ").count(), 5, "each struct has C's layout");
+    assert_eq!(structs.len(), 7, "structs");
+    assert_eq!(bindings.matches("pub struct ").count(), 7, "each struct has C's layout");
 }
 
 #[test]
@@ -144,6 +144,10 @@ fn constants_are_those_of_the_header() {
     assert_eq!(number("MEANDERPEG_STORE_NUMBERS ="), meanderpeg::STORE_NUMBERS);
     assert_eq!(number("MEANDERPEG_REPORT_BYTES ="), meanderpeg::REPORT_BYTES);
     assert_eq!(number("MEANDERPEG_GUID_BYTES ="), std::mem::size_of::<meanderpeg::Guid>());
+    assert_eq!(number("MEANDERPEG_DIRECTORY_HEADER_BYTES ="), meanderpeg::DIRECTORY_HEADER_BYTES);
+    assert_eq!(number("MEANDERPEG_DIRECTORY_ENTRY_BYTES ="), meanderpeg::DIRECTORY_ENTRY_BYTES);
+    assert_eq!(number("MEANDERPEG_DIRECTORY_BYTES ="), meanderpeg::DIRECTORY_BYTES);
+    assert_eq!(4 * number("MEANDERPEG_DIRECTORY_IMAGE_WORDS ="), std::mem::size_of::<meanderpeg::ImageWords>());
     let parts =
         ["MAJOR", "MINOR", "PATCH"].map(|part| number(&format!("#define MEANDERPEG_VERSION_{part}")).to_string());
     assert_eq!(parts.join("."), env!("CARGO_PKG_VERSION"));

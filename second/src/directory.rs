@@ -60,7 +60,7 @@ fn directory_bytes(record: &[u8], booted: u128, words: &[u32], correct_boot: u12
     put(&mut d, 12, 4, correct_boot);
     put(&mut d, 16, 4, ENTRY);
     for image in 0..count {
-        let at = (HEADER + ENTRY * image) as usize;
+        let at = entry_at(image) as usize;
         d[at..at + 16].copy_from_slice(&type_guid(record, image));
         for word in 0..WORDS {
             let value = words[(WORDS * image + word) as usize];

@@ -1,14 +1,12 @@
 // A capsule's items, and the sister that gives the refusal (C17, C18, C22 to C24). Every entry checks the whole capsule
 // first and has no condition: a refused one answers the empty part at the capsule's start, and `refusal` says which
 // refusal it was, or none, for the same capsule and item number. What an item holds is handed out by crate
-// capsule_parts, for which `part_of` is public.
+// capsule_parts.
 ghost use mathlib.Core.Path.{_≡_};
-ghost use Prim.Native.Nat.{_≤_};
-ghost use lib.ListN.{length};
 ghost use Rattle.refusal_order.specs.Decide.{verdictNumber};
 ghost use Rattle.capsule_check.specs.Verdict.{refusalNumber};
 ghost use Rattle.capsule_check.specs.Item.{located};
-ghost use Rattle.fields.specs.Part.{IsPart, range};
+ghost use Rattle.fields.specs.Part.{IsPart};
 ghost use Rattle.capsule_items.specs.Items.{rangeOf, itemPart};
 
 // The bytes of a capsule from start up to, not including, end.
@@ -29,14 +27,6 @@ pub fn refusal(s: &[u8], k: usize) -> refusal_order::Verdict
     }
 }
 
-// The part of s from a up to, not including, e.
-pub fn part_of(s: &[u8], a: usize, e: usize) -> &[u8]
-    requires { ⌜ (a ≤ e) × (e ≤ length (now s)) ⌝ }
-    ensures { λ r. ⌜ IsPart (s .entry) r (range a e) ⌝ }
-{
-    &s[a..e]
-}
-
 // Where the whole item k lies; with a refusal the empty part at the capsule's start.
 fn item_span(s: &[u8], k: usize) -> Span
     ensures { λ r. ⌜ rangeOf r ≡ itemPart (located (now (s .entry)) k) ⌝ }
@@ -54,5 +44,5 @@ pub fn item(s: &[u8], k: usize) -> &[u8]
     ensures { λ r. ⌜ IsPart (s .entry) r (itemPart (located (now (s .entry)) k)) ⌝ }
 {
     let p = item_span(s, k);
-    part_of(s, p.start, p.end)
+    fields::part_of(s, p.start, p.end)
 }

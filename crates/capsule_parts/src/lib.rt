@@ -2,7 +2,7 @@
 // first and have no condition: a refused one answers the empty part at the capsule's start, and
 // `capsule_items::refusal` says which refusal it was.
 use capsule_check::Item;
-use capsule_items::part_of;
+use fields::part_of;
 use refusal_order::Verdict;
 ghost use mathlib.Core.Path.{_≡_};
 ghost use mathlib.Core.Bool.{true};

@@ -9,7 +9,8 @@ use lib.ListN.{length, length-append}
 use Rattle.fields.specs.Number.{put, wordsBytes}
 use Rattle.fields.proofs.Put.{put-length, put-more}
 use Rattle.fields.proofs.Words.{length-words, put-none}
-use Rattle.directory_layout.specs.Layout.{DirectoryEntry, five, headerBytes, entryBytes, entriesBytes, upTo, entryStart}
+use Rattle.directory_layout.specs.Layout.{DirectoryEntry, Directory, five, entryStart}
+use Rattle.directory_layout.specs.Layout.{headerBytes, entryBytes, entriesBytes, directoryBytes, upTo}
 
 pub header-length : (images boot : ℕ) → length (headerBytes images boot) ≡ 24
 unfolding headerBytes
@@ -77,3 +78,26 @@ module _ (f : ℕ → DirectoryEntry) where
       ∙ ap (λ (k : ℕ). put (put s 24 front) (24 + k) (entryBytes (f n))) (sym l)
       ∙ put-more s 24 front (entryBytes (f n)) (omega (arith, entry-length (f n) (g n (omega arith))))
       ∙ ap (λ (x : List ℕ). put s 24 x) (sym (rw add-one (up-to-more f n)))
+
+-- the whole: the header, and the entries behind it
+module _ (boot n : ℕ) (f : ℕ → DirectoryEntry) (long : (k : ℕ) → k < n → length (f k .typeGuid) ≡ 16) where
+  abbrev whole : Directory
+  whole = record { correctBoot = boot; entries = upTo n f }
+
+  pub directory-length : length (directoryBytes whole) ≡ entryStart n
+  unfolding directoryBytes
+  directory-length =
+      length-append (headerBytes (length (upTo n f)) boot) (entriesBytes (upTo n f))
+      ∙ omega (arith, header-length (length (upTo n f)) boot, entries-length f n long)
+
+  pub directory-put : (s : List ℕ) {one two : List ℕ} → entryStart n ≤ length s → one ≡ put s 0 (headerBytes n boot)
+      → two ≡ put one 24 (entriesBytes (upTo n f)) → two ≡ put s 0 (directoryBytes whole)
+  unfolding directoryBytes
+  directory-put s {one} {two} h p q =
+      let front = headerBytes n boot in
+      let l : length front ≡ 24 = header-length n boot in
+      q
+      ∙ ap (λ (x : List ℕ). put x 24 (entriesBytes (upTo n f))) p
+      ∙ ap (λ (k : ℕ). put (put s 0 front) k (entriesBytes (upTo n f))) (omega (arith, l))
+      ∙ put-more s 0 front (entriesBytes (upTo n f)) (omega (arith, entries-length f n long))
+      ∙ ap (λ (k : ℕ). put s 0 (headerBytes k boot ++ entriesBytes (upTo n f))) (sym (up-to-length n f))

@@ -44,7 +44,7 @@ fn header_right(d: &[u8]) -> bool
     if images < 1 {
         return false;
     }
-    if IMAGE_LIMIT as u32 < images {
+    if (IMAGE_LIMIT as u32) < images {
         return false;
     }
     if 1 < read32(d, CORRECT_BOOT_AT) {

@@ -12,10 +12,11 @@ use directory_layout::MAXIMUM_SIZE_FROM;
 use directory_layout::PERMISSIONS_FROM;
 use directory_layout::VERSION_FROM;
 use directory_reader::refusal;
+use fields::part_of;
 use fields::read32;
 use refusal_order::Verdict;
 ghost use mathlib.Core.Path.{_≡_};
-ghost use Rattle.fields.specs.Part.{IsPart, range};
+ghost use Rattle.fields.specs.Part.{IsPart};
 ghost use Rattle.refusal_order.specs.Decide.{decide, passed};
 ghost use Rattle.directory_reader.specs.Reader.{readerTests};
 ghost use Rattle.directory_values.specs.Values.{rangeOf, guidRange, shownGuid};
@@ -42,7 +43,7 @@ pub fn guid_span(d: &[u8], k: usize) -> Span
     requires { ⌜ decide (readerTests (now d)) ≡ passed ⌝ }
     ensures { λ r. ⌜ rangeOf r ≡ guidRange (now (d .entry)) k ⌝ }
 {
-    if read32(d, IMAGES_AT) as usize <= k {
+    if (read32(d, IMAGES_AT) as usize) <= k {
         return Span { start: 0, end: 0 };
     }
     let start = HEADER + k * ENTRY;
@@ -55,12 +56,10 @@ pub fn type_guid(d: &[u8], k: usize) -> &[u8]
 {
     let verdict = refusal(d);
     if let Verdict::Refused(_) = verdict {
-        return &d[0..0];
+        return part_of(d, 0, 0);
     }
     let span = guid_span(d, k);
-    let start = span.start;
-    let end = span.end;
-    &d[start..end]
+    part_of(d, span.start, span.end)
 }
 
 // Zeros, past the count and with a refusal.
@@ -81,7 +80,7 @@ pub fn numbers_or_zeros(d: &[u8], k: usize) -> Numbers
     requires { ⌜ decide (readerTests (now d)) ≡ passed ⌝ }
     ensures { λ r. ⌜ numbersOf r ≡ numbersOrZeros (now (d .entry)) k ⌝ }
 {
-    if read32(d, IMAGES_AT) as usize <= k {
+    if (read32(d, IMAGES_AT) as usize) <= k {
         return zeros();
     }
     let at = HEADER + k * ENTRY;

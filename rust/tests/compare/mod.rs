@@ -4,18 +4,20 @@
 #![allow(dead_code)]
 
 use meanderpeg::{
-    Acceptance, Answer, BankIndex, Capsule, Guid, ItemKind, Refusal, Refused, Session, SessionState, Store,
+    Acceptance, Answer, BankIndex, Capsule, Directory, Guid, ImageWords, ItemKind, Permissions, Refusal, Refused,
+    Session, SessionState, Store,
 };
 use second::answers::call_answer;
 use second::digest::Tally;
-use second::inputs::{call_input, capsule_input, gather_input, CallInput};
+use second::directory as plain_directory;
+use second::inputs::{call_input, capsule_input, directory_read_input, directory_write_input, gather_input, CallInput};
 use second::record::{self, both_sound_and_equal, record_read};
 use second::session as plain;
 use second::stores::{apply, bad_cut, bad_repair_cut, offsets_good};
 use std::convert::Infallible;
 
 /// The entries, by name.
-pub const ENTRIES: [&str; 12] = [
+pub const ENTRIES: [&str; 14] = [
     "gather",
     "capsule",
     "start_up",
@@ -28,6 +30,8 @@ pub const ENTRIES: [&str; 12] = [
     "select_previous",
     "soundness",
     "report",
+    "directory_write",
+    "directory_read",
 ];
 
 /// Lists of at most so many pairs are cut after every store; of longer ones every 40th.
@@ -42,6 +46,8 @@ pub fn compare(entry: &str, seed: u64, k: u64, tally: &mut Tally) {
         "repair" => compare_repair(seed, k, tally),
         "soundness" => compare_soundness(seed, k, tally),
         "report" => compare_report(seed, k, tally),
+        "directory_write" => compare_directory_write(seed, k, tally),
+        "directory_read" => compare_directory_read(seed, k, tally),
         name => {
             let place = ENTRIES.iter().position(|&e| e == name).expect("an entry's name");
             compare_call(name, place as u64 - 2, seed, k, tally);
@@ -359,8 +365,85 @@ fn compare_report(seed: u64, k: u64, tally: &mut Tally) {
     tally.add(&format!("{} {}", if first[0] == "refused" { "refusal" } else { first[0] }, first[1]));
 }
 
+/// The words of images; what is left behind the last four is none's.
+fn images_of(words: &[u32]) -> Vec<ImageWords> {
+    let image = |four: &[u32]| ImageWords {
+        permissions: Permissions::from_bits(four[0]),
+        maximum_size: four[1],
+        lowest_accepted_version: four[2],
+        version: four[3],
+    };
+    words.chunks_exact(4).map(image).collect()
+}
+
+fn compare_directory_write(seed: u64, k: u64, tally: &mut Tally) {
+    let input = directory_write_input(seed, k);
+    let name = format!("directory_write {seed} {k}");
+    let (before, words) = (input.area.clone(), images_of(&input.words));
+    let (mut room, mut wanted_room) = (vec![0x5A; input.room + MARGIN], vec![0x5A; input.room + MARGIN]);
+    let booted = BankIndex::new(input.booted);
+    let found = meanderpeg::write_directory(&input.area, booted, &words, &mut room[..input.room]).map(<[_]>::to_vec);
+    let wanted =
+        plain_directory::directory_write(&input.area, input.booted, &input.words, &mut wanted_room[..input.room]);
+    let written = wanted.map(|length| wanted_room[..length as usize].to_vec());
+    assert_eq!(found.map_err(Refusal::number), written, "{name}");
+    assert!(room == wanted_room, "{name}: the room");
+    assert!(input.area == before, "{name}: the area");
+    match wanted {
+        Err(number) => tally.add(&format!("refusal {number}")),
+        Ok(_) => {
+            let copy = record_read(&input.area).expect("a sound copy").0;
+            tally.add(&format!("accepted, correct_boot {}, copy {copy} read", room[12]));
+        }
+    }
+}
+
+fn compare_directory_read(seed: u64, k: u64, tally: &mut Tally) {
+    let input = directory_read_input(seed, k);
+    let name = format!("directory_read {seed} {k}");
+    let (given, before) = (&input.directory[..], input.directory.clone());
+    let found = Directory::read(given);
+    let wanted = plain_directory::directory_check(given);
+    let shown = found.map(|directory| (directory.images() as u32, directory.correct_boot() as u32));
+    assert_eq!(shown.map_err(Refusal::number), wanted, "{name}");
+    match found {
+        Err(refusal) => tally.add(&format!("refusal {}", refusal.number())),
+        Ok(directory) => {
+            let place = compare_entry(&directory, input.entry, &name);
+            tally.add(&format!("accepted, correct_boot {}, entry {place} the count", directory.correct_boot() as u32));
+            let all: Vec<_> = (0..directory.images()).filter_map(|number| directory.entry(number)).collect();
+            assert_eq!(directory.entries().collect::<Vec<_>>(), all, "{name}: the entries");
+            assert_eq!((all.len(), directory.bytes()), (directory.images(), given), "{name}: the directory");
+        }
+    }
+    assert!(input.directory == before, "{name}: the directory");
+}
+
+/// An entry of a directory that was taken; answers whether it is below the count or past it.
+fn compare_entry(directory: &Directory, number: u64, name: &str) -> &'static str {
+    let given = directory.bytes();
+    let place = plain_directory::directory_type_guid(given, number).expect("a good directory");
+    let numbers = plain_directory::directory_numbers(given, number).expect("a good directory");
+    let Some(entry) = directory.entry(number as usize) else {
+        assert_eq!((place, numbers), ((0, 0), [0; 5]), "{name}: past the count");
+        return "past";
+    };
+    assert_eq!(place_of(given, entry.type_guid_bytes()), place, "{name}: the type GUID's place");
+    assert_eq!(&entry.type_guid().to_bytes(), entry.type_guid_bytes(), "{name}: the type GUID");
+    assert_eq!(entry.number() as u64, number, "{name}: the number");
+    let found = [
+        entry.permissions().bits(),
+        entry.maximum_size(),
+        entry.lowest_accepted_version(),
+        entry.version(),
+        entry.accepted() as u32,
+    ];
+    assert_eq!(found, numbers, "{name}: the numbers");
+    "below"
+}
+
 /// What the inputs of each entry but soundness must reach: each refusal that it can give, and each accepted case.
-const OUTCOMES: [(&str, &str, &[&str]); 11] = [
+const OUTCOMES: [(&str, &str, &[&str]); 13] = [
     ("gather", "1 2 3 4 5 6 7", &["accepted, at the window's start", "accepted, further up"]),
     (
         "capsule",
@@ -416,6 +499,26 @@ const OUTCOMES: [(&str, &str, &[&str]); 11] = [
         ],
     ),
     ("report", "20 21", &["record 0", "record 1", "slice too short"]),
+    (
+        "directory_write",
+        "20 21 28 40 41 42",
+        &[
+            "accepted, correct_boot 0, copy 0 read",
+            "accepted, correct_boot 0, copy 1 read",
+            "accepted, correct_boot 1, copy 0 read",
+            "accepted, correct_boot 1, copy 1 read",
+        ],
+    ),
+    (
+        "directory_read",
+        "43 44 45 46",
+        &[
+            "accepted, correct_boot 0, entry below the count",
+            "accepted, correct_boot 0, entry past the count",
+            "accepted, correct_boot 1, entry below the count",
+            "accepted, correct_boot 1, entry past the count",
+        ],
+    ),
 ];
 
 /// Every outcome that the inputs of an entry must reach.

@@ -1,6 +1,6 @@
 //! `meanderpeg`: the library for people, on files. A capsule is listed and taken apart; a capsule is gathered from a
 //! memory window; an area's record is shown, made, and updated store by store, with a power cut wherever one is
-//! wanted.
+//! wanted; an image directory is written and shown.
 //!
 //! A subcommand is one module and one row below. No input and no file makes the program panic. The rules are in
 //! docs/RULES.md; R1, P2 and so on are their numbers.
@@ -20,6 +20,8 @@ mod call;
 mod capsule_extract;
 mod capsule_list;
 mod command;
+mod directory_show;
+mod directory_write;
 mod failure;
 mod files;
 mod gather;
@@ -32,6 +34,7 @@ mod record_update;
 mod session_file;
 mod stores;
 mod text;
+mod words_file;
 
 use command::Command;
 use failure::Failure;
@@ -40,7 +43,7 @@ use std::io::{self, Write};
 use std::path::Path;
 use std::process::ExitCode;
 
-const COMMANDS: [&Command; 7] = [
+const COMMANDS: [&Command; 9] = [
     &capsule_list::COMMAND,
     &capsule_extract::COMMAND,
     &gather::COMMAND,
@@ -48,6 +51,8 @@ const COMMANDS: [&Command; 7] = [
     &record_update::COMMAND,
     &record_report::COMMAND,
     &record_make::COMMAND,
+    &directory_write::COMMAND,
+    &directory_show::COMMAND,
 ];
 
 const STATUS_HELP: &str = "\
