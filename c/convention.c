@@ -3,7 +3,7 @@
 #include "../include/meanderpeg.h"
 
 /* How many of the calls answered wrongly. Session and area are such that begin is refused by 20, with the session
- * given, and commit by 23; gathering is refused by 3. */
+ * given, and commit by 23; gathering is refused by 3, and a directory is not written by 21. */
 __attribute__((sysv_abi)) int wrong_calls(uint8_t *area, uint32_t *stores);
 
 __attribute__((sysv_abi)) int wrong_calls(uint8_t *area, uint32_t *stores) {
@@ -18,5 +18,10 @@ __attribute__((sysv_abi)) int wrong_calls(uint8_t *area, uint32_t *stores) {
     struct meanderpeg_gathered gathered = {8, 9};
     wrong += meanderpeg_gather(area, 100, 0x1000, 0x1001, &gathered) != MEANDERPEG_DESCRIPTOR_ADDRESS;
     wrong += gathered.address != 8 || gathered.total != 9;
+    uint8_t room[1] = {7};
+    size_t length = 8;
+    wrong += meanderpeg_directory_write(area, MEANDERPEG_AREA_BYTES, 0, stores, 4, room, 1, &length) !=
+             MEANDERPEG_NO_SOUND_COPY;
+    wrong += room[0] != 7 || length != 8;
     return wrong;
 }

@@ -8,7 +8,10 @@ void discarded(uint8_t *bytes, uint32_t *numbers, struct meanderpeg_session sess
     struct meanderpeg_gathered gathered = {0};
     struct meanderpeg_counts counts = {0};
     struct meanderpeg_part part = {0};
+    struct meanderpeg_directory shown = {0};
+    struct meanderpeg_directory_numbers five = {0};
     uint64_t instance = 0;
+    size_t length = 0;
     meanderpeg_gather(bytes, 1, 0, 0, &gathered);
     meanderpeg_capsule_check(bytes, 1, &counts);
     meanderpeg_capsule_item(bytes, 1, 0, &part);
@@ -27,5 +30,9 @@ void discarded(uint8_t *bytes, uint32_t *numbers, struct meanderpeg_session sess
     meanderpeg_cancel(session, bytes, 1, numbers, 1);
     meanderpeg_accept(session, bytes, 1, bytes, numbers, 1);
     meanderpeg_select_previous(session, bytes, 1, numbers, 1);
+    meanderpeg_directory_write(bytes, 1, 0, numbers, 1, bytes, 1, &length);
+    meanderpeg_directory_check(bytes, 1, &shown);
+    meanderpeg_directory_type_guid(bytes, 1, 0, &part);
+    meanderpeg_directory_numbers(bytes, 1, 0, &five);
     (void)!meanderpeg_soundness(NULL, 0, numbers);
 }

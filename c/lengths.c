@@ -8,6 +8,7 @@ static uint32_t numbers[100];
 extern uint32_t fault;
 void lengths(void);
 void calls(struct meanderpeg_session s);
+void directories(void);
 
 void lengths(void) {
     struct meanderpeg_gathered gathered = {0};
@@ -51,6 +52,20 @@ void calls(struct meanderpeg_session s) {
     fault = meanderpeg_select_previous(s, bytes, 100, numbers, 101).refusal;
 }
 
+void directories(void) {
+    struct meanderpeg_directory shown = {0};
+    struct meanderpeg_directory_numbers five = {0};
+    struct meanderpeg_part part = {0};
+    uint8_t room[100] = {0};
+    size_t length = 0;
+    fault = meanderpeg_directory_write(bytes, 101, 0, numbers, 100, room, 100, &length);
+    fault = meanderpeg_directory_write(bytes, 100, 0, numbers, sizeof numbers, room, 100, &length);
+    fault = meanderpeg_directory_write(bytes, 100, 0, numbers, 100, room, 101, &length);
+    fault = meanderpeg_directory_check(bytes, 101, &shown);
+    fault = meanderpeg_directory_type_guid(bytes, 101, 0, &part);
+    fault = meanderpeg_directory_numbers(bytes, 101, 0, &five);
+}
+
 /* A function for each: where one function has several, gcc warns of one of them alone. */
 #define UNWRITTEN(name, declared, function, ...)  \
     uint32_t name(void);                          \
@@ -69,3 +84,9 @@ UNWRITTEN(image_index, uint8_t x, meanderpeg_capsule_image_index, 0, &x)
 UNWRITTEN(instance, uint64_t x, meanderpeg_capsule_hardware_instance, 0, &x)
 UNWRITTEN(soundness, uint32_t x, meanderpeg_soundness, &x)
 UNWRITTEN(report, uint8_t x[100], (uint32_t)meanderpeg_report, x, 100)
+UNWRITTEN(room, uint8_t x[100], meanderpeg_directory_write, 0, numbers, 100, x, 100, &(size_t){0})
+UNWRITTEN(length, size_t x, meanderpeg_directory_write, 0, numbers, 100, guid, 16, &x)
+UNWRITTEN(words, uint32_t x[4], meanderpeg_directory_write, 0, x, 4, guid, 16, &(size_t){0})
+UNWRITTEN(shown, struct meanderpeg_directory x, meanderpeg_directory_check, &x)
+UNWRITTEN(part, struct meanderpeg_part x, meanderpeg_directory_type_guid, 0, &x)
+UNWRITTEN(five, struct meanderpeg_directory_numbers x, meanderpeg_directory_numbers, 0, &x)

@@ -1,6 +1,7 @@
-/* The rules' samples 1 to 8 and 12 to 14, a capsule taken apart, and an update from Begin to Accept, through the
- * functions of include/meanderpeg.h. Prints what came out; c/run compares it with c/expected. The areas and their CRC
- * are made here, by this program's own code, so that nothing of the library checks itself. */
+/* The rules' samples 1 to 8 and 12 to 14, a capsule taken apart, an update from Begin to Accept, and directories
+ * written and read, through the functions of include/meanderpeg.h. Prints what came out; c/run compares it with
+ * c/expected. The areas and their CRC are made here, by this program's own code, so that nothing of the library checks
+ * itself. */
 #include "../include/meanderpeg.h"
 
 #include <inttypes.h>
@@ -407,6 +408,106 @@ static void forgotten_stores(void) {
     show_report();
 }
 
+/* ---- The image directory ---- */
+
+static uint8_t directory[MEANDERPEG_DIRECTORY_BYTES];
+static uint32_t words[IMAGES * MEANDERPEG_DIRECTORY_IMAGE_WORDS] = {
+    MEANDERPEG_PERMISSION_WRITE | MEANDERPEG_PERMISSION_READ, 0x100000, 2, 5, /* A */
+    MEANDERPEG_PERMISSION_ACTIVATE_FIRST, 0x20000, 0, 0xffffffff,             /* B */
+};
+
+/* Writes one into so much room of a buffer that holds 0xee, and gives its length; a byte that was altered besides, and
+ * with a refusal any, shows. */
+static size_t write_directory(size_t area_length, uint32_t booted, size_t words_length, size_t room) {
+    size_t length = 99, altered = 0;
+    memset(directory, 0xee, sizeof directory);
+    uint32_t refusal =
+        meanderpeg_directory_write(area, area_length, booted, words, words_length, directory, room, &length);
+    size_t written = refusal == MEANDERPEG_OK ? length : 0;
+    for (size_t i = written; i < sizeof directory; i++) altered += directory[i] != 0xee;
+    printf("bank %" PRIu32 ", write: %" PRIu32 ", length %zu, %s", booted, refusal, length,
+           altered == 0 ? "no other byte altered" : "ALTERED");
+    if (refusal != MEANDERPEG_OK) printf(": %s", meanderpeg_refusal_text(refusal));
+    printf("\n");
+    return written;
+}
+
+/* What the header shows, and how many images; with a refusal, what was lent. */
+static uint32_t show_directory(size_t length) {
+    struct meanderpeg_directory shown = {99, 99};
+    uint32_t refusal = meanderpeg_directory_check(directory, length, &shown);
+    printf("   check: %" PRIu32 ", images %" PRIu32 ", correct_boot %" PRIu32, refusal, shown.images,
+           shown.correct_boot);
+    if (refusal != MEANDERPEG_OK) printf(": %s", meanderpeg_refusal_text(refusal));
+    printf("\n");
+    return shown.images;
+}
+
+static void show_entry(size_t length, size_t entry) {
+    struct meanderpeg_part part = {99, 99};
+    struct meanderpeg_directory_numbers n = {91, 92, 93, 94, 95};
+    uint32_t refusals[2] = {meanderpeg_directory_type_guid(directory, length, entry, &part),
+                            meanderpeg_directory_numbers(directory, length, entry, &n)};
+    printf("   entry %zu: %" PRIu32 " %" PRIu32 ", permissions %" PRIu32 ", maximum size %" PRIu32
+           ", lowest version %" PRIu32 ", version %" PRIu32 ", accepted %" PRIu32 ", type GUID %zu at %zu",
+           entry, refusals[0], refusals[1], n.permissions, n.maximum_size, n.lowest_accepted_version, n.version,
+           n.accepted, part.length, part.start);
+    if (part.length == MEANDERPEG_GUID_BYTES) printf(": %.16s", (const char *)directory + part.start);
+    printf("\n");
+}
+
+/* The directory of a start from this bank; the last entry shown is past the count. */
+static void installed(uint32_t booted) {
+    size_t length = write_directory(sizeof area, booted, IMAGES * MEANDERPEG_DIRECTORY_IMAGE_WORDS, sizeof directory);
+    uint32_t images = show_directory(length);
+    for (size_t entry = 0; entry <= images; entry++) show_entry(length, entry);
+}
+
+/* Each refusal of the writer, in their order: what is refused first has all the later faults, too. */
+static void refused_writes(void) {
+    const size_t size = MEANDERPEG_DIRECTORY_HEADER_BYTES + IMAGES * MEANDERPEG_DIRECTORY_ENTRY_BYTES;
+    words[MEANDERPEG_DIRECTORY_IMAGE_WORDS] += 8;
+    (void)write_directory(sizeof area - 1, BANKS, 7, size - 1);
+    area[4] = area[COPY + 4] = 0;
+    (void)write_directory(sizeof area, BANKS, 7, size - 1);
+    area[4] = area[COPY + 4] = 2;
+    (void)write_directory(sizeof area, BANKS, 7, size - 1);
+    (void)write_directory(sizeof area, 1, 7, size - 1);
+    (void)write_directory(sizeof area, 1, 8, size - 1);
+    words[MEANDERPEG_DIRECTORY_IMAGE_WORDS] -= 8;
+    (void)write_directory(sizeof area, 1, 8, size - 1);
+    (void)write_directory(sizeof area, 1, 8, size);
+}
+
+/* The same of the reader. */
+static void refused_reads(size_t length) {
+    directory[0] += 1;
+    directory[length - 8] += 2;
+    const size_t lengths[] = {MEANDERPEG_DIRECTORY_HEADER_BYTES - 1, length - 1, sizeof directory, length};
+    for (size_t i = 0; i < 4; i++) {
+        if (i == 2) directory[0] -= 1;
+        (void)show_directory(lengths[i]);
+        show_entry(lengths[i], 0);
+    }
+    directory[length - 8] -= 2;
+    (void)show_directory(length);
+}
+
+/* After an update that left B unaccepted: bank 1 is on trial, bank 0 is fallen back to. */
+static void directories(void) {
+    make_area();
+    session s = begin(start_up(0), MEANDERPEG_STORE_NUMBERS);
+    s = commit(s, 0, MEANDERPEG_IMAGE_ACCEPTED);
+    s = commit(s, 1, MEANDERPEG_IMAGE_UNACCEPTED);
+    (void)end(s);
+    (void)start_up(0);
+    installed(0);
+    (void)start_up(1);
+    installed(1);
+    refused_writes();
+    refused_reads(write_directory(sizeof area, 1, 8, sizeof directory));
+}
+
 int main(void) {
     window_samples();
     capsule_samples();
@@ -421,5 +522,7 @@ int main(void) {
     old_sessions();
     printf("-- forgotten stores\n");
     forgotten_stores();
+    printf("-- directories\n");
+    directories();
     return 0;
 }

@@ -18,8 +18,10 @@ enum { BASE = 0x1000, WINDOW = 16384, ITEMS = 64, CAPSULE = 28 + 8 + 8 * ITEMS +
 static uint8_t window[WINDOW], capsule[CAPSULE], area[MEANDERPEG_AREA_BYTES], text[MEANDERPEG_REPORT_BYTES];
 static uint32_t stores[MEANDERPEG_STORE_NUMBERS];
 static uint8_t guid[MEANDERPEG_GUID_BYTES];
+static uint32_t words[IMAGES * MEANDERPEG_DIRECTORY_IMAGE_WORDS];
+static uint8_t directory[MEANDERPEG_DIRECTORY_BYTES];
 static struct meanderpeg_session session;
-static size_t item, blocks;
+static size_t item, blocks, entry;
 
 static void put(uint8_t *at, uint64_t value, int bytes) {
     for (int i = 0; i < bytes; i++) at[i] = (uint8_t)(value >> (8 * i));
@@ -115,6 +117,7 @@ static uint8_t *before; /* the stack pointer at the call */
     }
 #define ANSWERED(name, call) CALLED(name, refusal = (call).refusal)
 #define STORES stores, MEANDERPEG_STORE_NUMBERS
+#define WORDS words, IMAGES *MEANDERPEG_DIRECTORY_IMAGE_WORDS
 
 static struct meanderpeg_gathered gathered;
 static struct meanderpeg_counts counts;
@@ -122,6 +125,9 @@ static struct meanderpeg_part part;
 static uint8_t image_index;
 static uint64_t instance;
 static uint32_t copies;
+static size_t length;
+static struct meanderpeg_directory shown;
+static struct meanderpeg_directory_numbers numbers;
 
 CALLED(gather, refusal = meanderpeg_gather(window, WINDOW, BASE, BASE, &gathered))
 CALLED(capsule_check, refusal = meanderpeg_capsule_check(capsule, CAPSULE, &counts))
@@ -141,6 +147,11 @@ ANSWERED(end, meanderpeg_end(session, area, sizeof area, STORES))
 ANSWERED(cancel, meanderpeg_cancel(session, area, sizeof area, STORES))
 ANSWERED(accept, meanderpeg_accept(session, area, sizeof area, guid, STORES))
 ANSWERED(select_previous, meanderpeg_select_previous(session, area, sizeof area, STORES))
+CALLED(directory_write, refusal = meanderpeg_directory_write(area, sizeof area, 0, WORDS, directory, sizeof directory,
+                                                             &length))
+CALLED(directory_check, refusal = meanderpeg_directory_check(directory, length, &shown))
+CALLED(directory_type_guid, refusal = meanderpeg_directory_type_guid(directory, length, entry, &part))
+CALLED(directory_numbers, refusal = meanderpeg_directory_numbers(directory, length, entry, &numbers))
 
 /* ---- The painted stack ---- */
 
@@ -282,9 +293,31 @@ static void records(void) {
     changed("end", end, 22);
 }
 
+/* A directory of 32 entries, each asked for and one past them; then with a fault in the last. */
+static void directories(void) {
+    static const struct {
+        const char *name;
+        void (*call)(void);
+    } calls[] = {{"directory_check", directory_check},
+                 {"directory_type_guid", directory_type_guid},
+                 {"directory_numbers", directory_numbers}};
+    make_area(0);
+    changed("directory_write", directory_write, 0);
+    uint8_t *last = directory + length - MEANDERPEG_DIRECTORY_ENTRY_BYTES;
+    for (size_t i = 0; i < sizeof calls / sizeof *calls; i++) {
+        size_t most = 0;
+        for (entry = 0; entry <= IMAGES; entry++) most = larger(most, called(calls[i].call, MEANDERPEG_OK));
+        last[15]--; /* the type GUID of the entry before it */
+        most = larger(most, called(calls[i].call, MEANDERPEG_DIRECTORY_ENTRIES));
+        last[15]++;
+        show(calls[i].name, most);
+    }
+}
+
 int main(void) {
     gathering();
     capsules();
     records();
+    directories();
     return faults != 0;
 }

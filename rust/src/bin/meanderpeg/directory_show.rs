@@ -12,7 +12,7 @@ pub const COMMAND: Command = Command {
     usage: "FILE",
     summary: "Shows an image directory, or why it is refused",
     help: "\
-FILE holds a directory and nothing else. correct_boot is no where another bank than the active one booted;
+FILE holds a directory and nothing else. correct_boot is `no` where another bank than the active one booted;
 versions and accepted flags are those of the bank that booted. Permissions are write, read and activate-first
 (the image must be activated before it can be accepted), or none. Refusals 43 to 46.
 ",

@@ -21,7 +21,7 @@ WORDS is a text with a line for each image, in the record's order, of four numbe
   lowest accepted version   no lower one may run
   version                   the one in the bank that booted
 What is behind # and blank lines are passed over; lines past the last image are read and not used. Accepted
-flags are those of the bank that booted, and correct_boot is no where start-up gives Fallback.
+flags are those of the bank that booted. correct_boot is `no` exactly where start-up gives Fallback.
 OUT is written whole or not at all; a plain file that is there is replaced. Refusals 20, 21, 28, 40, 41.
 ",
     operands: 4..=4,
