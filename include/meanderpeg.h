@@ -465,24 +465,24 @@ MEANDERPEG_FUNCTION uint32_t meanderpeg_directory_write(const uint8_t *area, siz
                                                         uint8_t *directory, size_t room, size_t *length)
     MEANDERPEG_READS(1) MEANDERPEG_READS(4) MEANDERPEG_WRITES(6) MEANDERPEG_SETS(8);
 
-/* The reader. `directory_length` is how many bytes were written, exactly: with the whole room of a longer buffer the
- * answer is 45. Each function checks the whole directory before it answers, so none needs another called first. What is
- * behind the last pointer is set where the answer is 0; with a refusal it stays as it was: initialise it to {0}. Nobody
- * else writes the directory until its parts have been used. Refusals of all: 43 to 46. */
+/* The reader. `length` is how many bytes were written, exactly: with the whole room of a longer buffer the answer is
+ * 45. Each function checks the whole directory before it answers, so none needs another called first. What is behind
+ * the last pointer is set where the answer is 0; with a refusal it stays as it was: initialise it to {0}. Nobody else
+ * writes the directory until its parts have been used. Refusals of all: 43 to 46. */
 
 /* How many images there are, and correct_boot. */
-MEANDERPEG_FUNCTION uint32_t meanderpeg_directory_check(const uint8_t *directory, size_t directory_length,
+MEANDERPEG_FUNCTION uint32_t meanderpeg_directory_check(const uint8_t *directory, size_t length,
                                                         struct meanderpeg_directory *shown)
     MEANDERPEG_READS(1) MEANDERPEG_SETS(3);
 
-/* Of an entry, counted from 0: where its type GUID is (directory + part->start has its 16 bytes), and its five numbers.
- * An entry at or past the image count is no refusal: the answer is 0, with the empty part at start 0, or with zeros. So
- * compare `entry` with the count of meanderpeg_directory_check first. */
-MEANDERPEG_FUNCTION uint32_t meanderpeg_directory_type_guid(const uint8_t *directory, size_t directory_length,
-                                                            size_t entry, struct meanderpeg_part *part)
+/* Of entry k, counted from 0: where its type GUID is (directory + part->start has its 16 bytes), and its five numbers.
+ * A k at or past the image count is no refusal: the answer is 0, with the empty part at start 0, or with zeros. So
+ * compare k with the count of meanderpeg_directory_check first. */
+MEANDERPEG_FUNCTION uint32_t meanderpeg_directory_type_guid(const uint8_t *directory, size_t length, size_t k,
+                                                            struct meanderpeg_part *part)
     MEANDERPEG_READS(1) MEANDERPEG_SETS(4);
-MEANDERPEG_FUNCTION uint32_t meanderpeg_directory_numbers(const uint8_t *directory, size_t directory_length,
-                                                          size_t entry, struct meanderpeg_directory_numbers *numbers)
+MEANDERPEG_FUNCTION uint32_t meanderpeg_directory_numbers(const uint8_t *directory, size_t length, size_t k,
+                                                          struct meanderpeg_directory_numbers *numbers)
     MEANDERPEG_READS(1) MEANDERPEG_SETS(4);
 
 /* ---- Refusals in words ---- */

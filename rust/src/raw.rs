@@ -194,21 +194,17 @@ mod library {
             room: usize,
             length: *mut usize,
         ) -> u32;
-        pub fn meanderpeg_directory_check(
-            directory: *const u8,
-            directory_length: usize,
-            shown: *mut Directory,
-        ) -> u32;
+        pub fn meanderpeg_directory_check(directory: *const u8, length: usize, shown: *mut Directory) -> u32;
         pub fn meanderpeg_directory_type_guid(
             directory: *const u8,
-            directory_length: usize,
-            entry: usize,
+            length: usize,
+            k: usize,
             part: *mut Part,
         ) -> u32;
         pub fn meanderpeg_directory_numbers(
             directory: *const u8,
-            directory_length: usize,
-            entry: usize,
+            length: usize,
+            k: usize,
             numbers: *mut DirectoryNumbers,
         ) -> u32;
     }
@@ -316,10 +312,10 @@ pub fn directory_check(directory: &[u8], shown: &mut Directory) -> u32 {
     unsafe { library::meanderpeg_directory_check(directory.as_ptr(), directory.len(), shown) }
 }
 
-pub fn directory_type_guid(directory: &[u8], entry: usize, part: &mut Part) -> u32 {
-    unsafe { library::meanderpeg_directory_type_guid(directory.as_ptr(), directory.len(), entry, part) }
+pub fn directory_type_guid(directory: &[u8], k: usize, part: &mut Part) -> u32 {
+    unsafe { library::meanderpeg_directory_type_guid(directory.as_ptr(), directory.len(), k, part) }
 }
 
-pub fn directory_numbers(directory: &[u8], entry: usize, numbers: &mut DirectoryNumbers) -> u32 {
-    unsafe { library::meanderpeg_directory_numbers(directory.as_ptr(), directory.len(), entry, numbers) }
+pub fn directory_numbers(directory: &[u8], k: usize, numbers: &mut DirectoryNumbers) -> u32 {
+    unsafe { library::meanderpeg_directory_numbers(directory.as_ptr(), directory.len(), k, numbers) }
 }

@@ -44,12 +44,12 @@ fn written_and_read() -> Result<(), Refusal> {
         let directory = Directory::read(written)?;
         assert_eq!((directory.images(), directory.bytes()), (IMAGES, written));
         assert_eq!(directory.correct_boot(), state != SessionState::Fallback);
-        for i in 0..IMAGES {
+        for (i, given) in words.iter().enumerate() {
             let entry = directory.entry(i).expect("an entry");
-            assert_eq!((entry.number(), entry.words()), (i, words[i]));
-            assert_eq!((entry.permissions(), entry.version()), (words[i].permissions, words[i].version));
-            assert_eq!(entry.maximum_size(), words[i].maximum_size);
-            assert_eq!(entry.lowest_accepted_version(), words[i].lowest_accepted_version);
+            assert_eq!((entry.number(), entry.words()), (i, *given));
+            assert_eq!((entry.permissions(), entry.version()), (given.permissions, given.version));
+            assert_eq!(entry.maximum_size(), given.maximum_size);
+            assert_eq!(entry.lowest_accepted_version(), given.lowest_accepted_version);
             assert_eq!(entry.accepted(), i != 1 || state == SessionState::Fallback);
             assert_eq!(entry.type_guid(), Guid::from_bytes(type_guid_for(i, 15)));
             let start = DIRECTORY_HEADER_BYTES + i * DIRECTORY_ENTRY_BYTES;

@@ -1,2 +1,3 @@
 -- Laws of a directory's bytes, for the proofs in the crates above.
 pub mod Written
+pub mod Read

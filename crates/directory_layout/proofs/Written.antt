@@ -1,14 +1,15 @@
--- A directory's bytes put one field behind another: how long they are, and what two stores together put. Assumes nothing.
+-- A directory's bytes put one field behind another: how long they are, and what two stores together put.
+-- Assumes nothing.
 use mathlib.Core.Path.{_≡_, refl, sym, ap, _∙_}
 use mathlib.Core.List.{List, [], _∷_, _++_, append-assoc, append-nil}
 use Prim.Native.Nat.{ℕ, zero, suc, _+_, _*_, _≤_, _<_}
-use native.Mathlib.Nat.{zero-mul}
 use native.Mathlib.Numerals.{add-one}
 use native.Mathlib.Omega.{arith}
 use lib.ListN.{length, length-append}
 use Rattle.fields.specs.Number.{put, wordsBytes}
 use Rattle.fields.proofs.Put.{put-length, put-more}
 use Rattle.fields.proofs.Words.{length-words, put-none}
+use Rattle.fields.proofs.Joined.{joined, joined-length}
 use Rattle.directory_layout.specs.Layout.{DirectoryEntry, Directory, five, entryStart}
 use Rattle.directory_layout.specs.Layout.{headerBytes, entryBytes, entriesBytes, directoryBytes, upTo}
 
@@ -50,13 +51,14 @@ up-to-length zero f = refl
 up-to-length (suc n) f = length-append (upTo n f) (f n ∷ []) ∙ omega (arith, up-to-length n f)
 
 module _ (f : ℕ → DirectoryEntry) where
+  pub entries-joined : (n : ℕ) → entriesBytes (upTo n f) ≡ joined n (λ k. entryBytes (f k))
+  unfolding upTo entriesBytes joined
+  entries-joined zero = refl
+  entries-joined (suc n) = up-to-more f n ∙ ap (λ (l : List ℕ). l ++ entryBytes (f n)) (entries-joined n)
+
   pub entries-length : (n : ℕ) → ((k : ℕ) → k < n → length (f k .typeGuid) ≡ 16) → length (entriesBytes (upTo n f)) ≡ n * 40
-  unfolding upTo entriesBytes
-  entries-length zero g = refl
-  entries-length (suc n) g =
-      ap length (up-to-more f n)
-      ∙ length-append (entriesBytes (upTo n f)) (entryBytes (f n))
-      ∙ omega (arith, entries-length n (λ k h. g k (omega arith)), entry-length (f n) (g n (omega arith)))
+  entries-length n g =
+      ap length (entries-joined n) ∙ joined-length 40 n (λ k. entryBytes (f k)) (λ k h. entry-length (f k) (g k h))
 
   pub entries-kept : (s : List ℕ) (n : ℕ) → ((k : ℕ) → k < n → length (f k .typeGuid) ≡ 16) → entryStart n ≤ length s
       → length (put s 24 (entriesBytes (upTo n f))) ≡ length s

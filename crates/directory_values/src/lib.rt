@@ -47,7 +47,10 @@ pub fn guid_span(d: &[u8], k: usize) -> Span
         return Span { start: 0, end: 0 };
     }
     let start = HEADER + k * ENTRY;
-    Span { start, end: start + GUID }
+    Span {
+        start,
+        end: start + GUID,
+    }
 }
 
 // The type GUID of entry k.

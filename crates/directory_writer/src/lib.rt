@@ -88,7 +88,14 @@ fn put_directory(r: &[u8], booted: u32, session: Session, words: &[u32], out: &m
         × (now (out .exit) ≡ put (now (out .entry)) 0 (directoryBytes (installed (now (r .entry)) booted (now (words .entry))))) ⌝ }
 {
     let images = image_count(r);
-    let six = [VERSION, HEADER as u32, images as u32, correct_boot(session), ENTRY as u32, 0];
+    let six = [
+        VERSION,
+        HEADER as u32,
+        images as u32,
+        correct_boot(session),
+        ENTRY as u32,
+        0,
+    ];
     write_words(out, 0, &six);
     put_entries(r, booted as usize, words, out);
     HEADER + images * ENTRY

@@ -6,7 +6,7 @@ use mathlib.Core.Logic.{inl, inr}
 use mathlib.Core.List.{List, [], _∷_}
 use Prim.Native.Nat.{ℕ, _+_, _≤_, _<_}
 use native.Mathlib.Omega.{arith}
-use borrow.Author.Tests.{leb-true, le-leb, lt-ltb, not-true}
+use borrow.Author.Tests.{le-leb, lt-ltb, not-true}
 use lib.Dec.{eqb, leb}
 use lib.ListN.{getD}
 use Rattle.fields.specs.Number.{le}
@@ -18,12 +18,12 @@ use Rattle.record_layout.specs.Every.{below}
 use Rattle.record_layout.specs.Layout.{version, active, reserved22, state, reserved28, bankCount, reserved33, imageCount, entryAt, typeGuid, acceptedAt, reservedAt, accepted, reserved}
 use Rattle.record_layout.specs.Rules.{versionRule, bankCountRule, imageCountRule, bankEntrySizeRule, imageEntrySizeRule, sizeRule, descriptorOffsetRule, reservedRule, banksNamedRule, acceptedRule, typeGuidsRule, invalid, stateAllowed, statesRule, allAccepted, bankConsistent, banksRule, crcRule, rules, sound}
 use Rattle.record_layout.specs.Sized.{Sized}
-use Rattle.record_layout.proofs.Below.{below-each, below-same}
-use Rattle.record_layout.proofs.Sound.{All, all-of, sound-named}
+use Rattle.record_layout.proofs.Below.{below-each, below-all, below-same}
+use Rattle.record_layout.proofs.Sound.{All, all-of, sound-named, sound-accepted, bankFits}
 use Rattle.proof_kept_sound.specs.Fields.{Fields, fieldsOf, allIn, OutsideField, Elsewhere}
 use Rattle.proof_kept_sound.proofs.Places.{guid-elsewhere, reserved-elsewhere, header-elsewhere}
 use Rattle.proof_kept_sound.proofs.Says.{Says}
-use Rattle.proof_kept_sound.proofs.Good.{bankFits, Good, below-all}
+use Rattle.proof_kept_sound.proofs.Good.{Good}
 
 -- rule 13 for one bank, as the fields tell it
 consistent-fits : (r : List ℕ) (b : ℕ) → bankConsistent r b ≡ bankFits (state r b) (allAccepted r b)
@@ -36,23 +36,17 @@ all-in r b = refl
 
 -- a sound record's fields are what the rules ask
 pub good-of : (r : List ℕ) → sound r ≡ true → Good (bankCount r) (imageCount r) (fieldsOf r)
-unfolding sound acceptedRule statesRule banksRule
+unfolding sound statesRule banksRule
 good-of r e =
     let a : All rules r = all-of rules r e in
     let named = sound-named r e in
-    let flags = a .1 .1 .1 .1 .1 .1 .1 .1 .1 .0 in
     let states = a .1 .1 .1 .1 .1 .1 .1 .1 .1 .1 .1 .0 in
     let banks =
     both (below (bankCount r) (bankConsistent r)) (not (eqb (state r (active r)) invalid)) (a .1 .1 .1 .1 .1 .1 .1 .1 .1 .1 .1 .1 .0) in
     record {
       active-low = named .0;
       previous-low = named .1;
-      flags-low =
-          λ i b hi hb.
-          leb-true (accepted r i b) 1
-          (below-each (λ c. leb (accepted r i c) 1) (bankCount r) b
-          (below-each (λ j. below (bankCount r) (λ c. leb (accepted r j c) 1)) (imageCount r) i flags hi)
-          hb);
+      flags-low = λ i b hi hb. sound-accepted r i b e hi hb;
       states-known = λ b hb. below-each (λ c. stateAllowed (bankCount r) c (state r c)) 4 b states hb;
       fitting =
           λ b hb. rw (← all-in r b) (sym (consistent-fits r b) ∙ below-each (bankConsistent r) (bankCount r) b (banks .0) hb);

@@ -1,22 +1,18 @@
 -- What rules 9, 10, 12 and 13 ask of the fields that calls alter, and that each call keeps it. Assumes nothing.
 use mathlib.Core.Path.{_≡_, refl, sym, ap, _∙_}
-use mathlib.Core.Bool.{Bool, true, false, cond, not, _&&_}
+use mathlib.Core.Bool.{Bool, true, false, cond, _&&_}
 use mathlib.Core.Logic.{_⊎_, inl, inr, ⊎-elim}
-use Prim.Native.Nat.{ℕ, zero, suc, _+_, _%_, _≤_, _<_}
+use Prim.Native.Nat.{ℕ, _+_, _%_, _≤_, _<_}
 use native.Mathlib.Nat.{mod-eq-of-lt, mod-self}
 use native.Mathlib.Omega.{arith}
 use borrow.Author.Tests.{eqb-true, eq-eqb, ne-eqb, lt-ltb}
 use lib.Dec.{eqb}
 use Rattle.fields.proofs.Tests.{no-true, either, le-or-lt}
-use Rattle.record_layout.specs.Every.{below}
 use Rattle.record_layout.specs.Layout.{updateBank}
 use Rattle.record_layout.specs.Rules.{invalid, valid, acceptedBank, stateKnown, stateAllowed}
-use Rattle.record_layout.proofs.Below.{below-each}
+use Rattle.record_layout.proofs.Below.{below-each, below-all}
+use Rattle.record_layout.proofs.Sound.{bankFits, fits-ended, live-ended}
 use Rattle.proof_kept_sound.specs.Fields.{Fields, withState, withFlag, allIn, begun, committed, ended, markedIn, acceptedOf, exchanged}
-
--- rule 13 for one bank: its state, and whether all its images are accepted
-unfoldable pub bankFits : ℕ → Bool → Bool
-bankFits s all = cond (eqb s acceptedBank) all (cond (eqb s valid) (not all) true)
 
 pub record Good (banks images : ℕ) (f : Fields) : Type 0 where
   pub active-low : f .active-bank < banks
@@ -27,12 +23,6 @@ pub record Good (banks images : ℕ) (f : Fields) : Type 0 where
   pub live : eqb (f .states (f .active-bank)) invalid ≡ false
 
 -- ---- small laws
--- a test that holds at every number
-pub below-all : (test : ℕ → Bool) (n : ℕ) → ((i : ℕ) → i < n → test i ≡ true) → below n test ≡ true
-unfolding below
-below-all test zero h = refl
-below-all test (suc n) h = rw (below-all test n (λ i lt. h i (omega arith)), h n (omega arith))
-
 -- the update bank is not the active one
 pub update-differs : (banks a : ℕ) → 2 ≤ banks → a < banks → updateBank banks a ≡ a → ⊥
 update-differs banks a h k e = ⊎-elim wraps plain (le-or-lt banks (a + 1))
@@ -54,7 +44,7 @@ allowed-known : (banks b s : ℕ) → b < banks → stateAllowed banks b s ≡ t
 unfolding stateAllowed
 allowed-known banks b s h e = rw (lt-ltb b banks h) at e
 
--- a bank that is 255 fits, and one that becomes what its images make of it
+-- a bank that is 255 fits
 fits-invalid : (all : Bool) → bankFits invalid all ≡ true
 unfolding bankFits
 fits-invalid all = refl
@@ -63,11 +53,6 @@ fits-invalid all = refl
 fits-full : (b s : ℕ) (all : Bool) → all ≡ true → bankFits (cond (eqb b b) acceptedBank s) all ≡ true
 unfolding bankFits
 fits-full b s all e = rw (eq-eqb b b refl) e
-
-fits-ended : (all : Bool) → bankFits (cond all acceptedBank valid) all ≡ true
-unfolding bankFits
-fits-ended true = refl
-fits-ended false = refl
 
 -- a bank of which one more image is accepted, and still not all are
 fits-part : (s : ℕ) (before after : Bool) → bankFits s before ≡ true → after ≡ false → (before ≡ true → after ≡ true) → bankFits s after ≡ true
@@ -164,15 +149,11 @@ module _ (banks images : ℕ) (f : Fields) (g : Good banks images f) where
   pub good-ended : (u : ℕ) → u < banks → Good banks images (ended images u f)
   good-ended u h =
       good-but u (ended images u f) h (g .active-low) (g .flags-low) (λ b e. (rw e, refl)) (λ l. rw (eq-eqb u u refl) (known-allowed banks u _ h (known (allIn images u f))))
-      (rw (eq-eqb u u refl) (fits-ended (allIn images u f))) (rw (eq-eqb u u refl) (lives (allIn images u f)))
+      (rw (eq-eqb u u refl) (fits-ended (allIn images u f))) (rw (eq-eqb u u refl) (live-ended (allIn images u f)))
     where
       known : (t : Bool) → stateKnown (cond t acceptedBank valid) ≡ true
       known true = refl
       known false = refl
-
-      lives : (t : Bool) → eqb (cond t acceptedBank valid) invalid ≡ false
-      lives true = refl
-      lives false = refl
 
   -- ---- Accept
   module _ (i : ℕ) where

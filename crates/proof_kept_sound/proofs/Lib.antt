@@ -1,5 +1,4 @@
 -- The proof. Assumes nothing.
-pub mod Crc
 pub mod Places
 pub mod Says
 pub mod Good

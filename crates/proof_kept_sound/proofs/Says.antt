@@ -15,13 +15,13 @@ use Rattle.fields.proofs.Put.{put-length, put-after, read-back}
 use Rattle.fields.proofs.Bytes.{bytes-small, put-bytes, drop-bytes}
 use Rattle.fields.proofs.Beside.{Apart, byte-beside, le-beside, byte-back}
 use Rattle.record_crc.specs.Crc.{crc32Of}
+use Rattle.record_crc.proofs.Register.{crc-low}
 use Rattle.record_layout.specs.Layout.{active, previous, state, bankCount, acceptedAt}
 use Rattle.record_layout.specs.Rules.{crcRule}
 use Rattle.record_layout.specs.Sized.{Sized}
 use Rattle.record_layout.proofs.Sizes.{bank-in, header-in}
 use Rattle.record_alterations.specs.Fields.{setActive, setPrevious, setState, setAccepted, withCrc}
 use Rattle.proof_kept_sound.specs.Fields.{Fields, withActive, withPrevious, withState, withFlag, OutsideField, Elsewhere}
-use Rattle.proof_kept_sound.proofs.Crc.{crc-low}
 use Rattle.proof_kept_sound.proofs.Places.{flags-apart, header-elsewhere}
 
 -- x is as long as r, is bytes, has the fields f, and elsewhere the bytes of r

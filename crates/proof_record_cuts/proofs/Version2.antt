@@ -1,25 +1,23 @@
 -- Record version 2 is a format of crates/proof_format_cuts, and the product's list of stores a writer of it. Assumes
 -- nothing.
-use mathlib.Core.Path.{_≡_, sym, _∙_}
+use mathlib.Core.Path.{_≡_}
 use mathlib.Core.Logic.{_≢_}
 use mathlib.Core.Bool.{true}
-use mathlib.Core.List.{List, _++_}
+use mathlib.Core.List.{List}
 use Prim.Native.Nat.{ℕ, _+_, _*_, _/_, _≤_}
 use native.Mathlib.Omega.{arith}
-use borrow.Author.Tests.{le-leb}
-use lib.Dec.{leb}
-use lib.ListN.{length, getD, List·getD-append}
+use lib.ListN.{length, getD}
 use Rattle.fields.specs.Number.{le}
-use Rattle.fields.proofs.Number.{le-same}
-use Rattle.record_layout.specs.Layout.{headerSize, recordLimit, size, bankCount, imageCount}
+use Rattle.record_layout.specs.Layout.{recordLimit, bankCount, imageCount}
 use Rattle.record_layout.specs.Rules.{sound}
 use Rattle.record_layout.specs.Sized.{Sized}
 use Rattle.record_layout.proofs.Sizes as sizes
-use Rattle.record_layout.proofs.Sound.{sound-sized, sound-version, sound-size}
+use Rattle.record_layout.proofs.Copies.{front-length}
+use Rattle.record_layout.proofs.Sound.{sound-sized, sound-version}
 use Rattle.proof_format_cuts.specs.Format.{FormatLaws, WriterLaws, Writable}
 use Rattle.proof_format_cuts.specs.Theorem.{FormatCuts}
 use Rattle.proof_format_cuts.proofs.Theorem.{format-cuts}
-use Rattle.proof_record_cuts.specs.Version2.{recordLength, version2, planned}
+use Rattle.proof_record_cuts.specs.Version2.{version2, planned}
 use Rattle.proof_record_cuts.proofs.Plan.{Plan, plan-of}
 
 module _ (r : List ℕ) (h : sound r ≡ true) where
@@ -39,14 +37,6 @@ module _ (r : List ℕ) (h : sound r ≡ true) where
   pub record-high : length r ≤ recordLimit
   record-high = sizes.record-high r (bankCount r) (imageCount r) sized
 
-  -- the size inside a record is the same with more bytes behind
-  told : (t : List ℕ) → recordLength (r ++ t) ≡ length r
-  told t =
-      let s : size (r ++ t) ≡ size r = le-same 4 (r ++ t) r 16 16 (λ k lt. List·getD-append r t 0 (16 + k) (omega (arith, in-words))) in
-      let e : size (r ++ t) ≡ length r = s ∙ sym (sound-size r h) in
-      let k : leb headerSize (length r) ≡ true = le-leb headerSize (length r) (omega (arith, in-words)) in
-      rw (e, k)
-
   marked : getD r 4 0 ≢ 0
   unfolding le
   marked = omega (arith, sound-version r h)
@@ -54,7 +44,7 @@ module _ (r : List ℕ) (h : sound r ≡ true) where
 pub version2-laws : FormatLaws version2
 unfolding version2
 version2-laws =
-    record { size-told = λ r t h. told r h t; version-marks = λ r h. marked r h; fits = λ r h. omega (arith, record-high r h) }
+    record { size-told = front-length; version-marks = λ r h. marked r h; fits = λ r h. omega (arith, record-high r h) }
 
 planned-plan : (c r : List ℕ) → Writable version2 c r → Plan c r (planned c r)
 unfolding planned version2

@@ -8,7 +8,7 @@ use native.Mathlib.Decide.{decLe}
 use lib.ListN.{length, take}
 use Rattle.fields.specs.Number.{Bytes, le}
 use Rattle.fields.proofs.Put.{read-back}
-use Rattle.fields.proofs.Bytes.{word-apart}
+use Rattle.fields.proofs.Bytes.{le-small, word-apart}
 use Rattle.record_stores.specs.Stores.{Store, store}
 use Rattle.proof_format_cuts.specs.Area.{afterStore, afterStores, Each}
 use Rattle.proof_format_cuts.specs.Format.{StoresInside}
@@ -50,8 +50,7 @@ stores-miss r l (p ∷ os) o k h =
 
 module _ (r : List ℕ) (b : Bytes r) where
   pub word-small : (o : ℕ) → le 4 r o < 2 ^ 32
-  unfolding le
-  word-small o = omega (arith, b o, b (o + 1), b (o + 1 + 1), b (o + 1 + 1 + 1))
+  word-small o = le-small 4 r o b
 
   module _ (o : ℕ) (even : o % 4 ≡ 0) where
     -- a word that agrees with r goes on to

@@ -11,7 +11,7 @@ use lib.ListN.{length, replicate, length-replicate, length-append}
 use Rattle.fields.specs.Number.{Bytes, le}
 use Rattle.fields.specs.Guid.{guid, same}
 use Rattle.fields.proofs.Tests.{both}
-use Rattle.fields.proofs.Bytes.{append-bytes}
+use Rattle.fields.proofs.Bytes.{append-bytes, zero-bytes}
 use Rattle.record_crc.specs.Crc.{divisionStep, steps, withByte, withBytes, crc32Of}
 use Rattle.record_layout.specs.Every.{below}
 use Rattle.record_layout.specs.Layout.{areaSize, copySize}
@@ -49,11 +49,6 @@ small-bytes : (l : List ℕ) → small l ≡ true → Bytes l
 small-bytes [] e i = omega arith
 small-bytes (x ∷ xs) e zero = ltb-true x 256 (both (ltb x 256) (small xs) e .0)
 small-bytes (x ∷ xs) e (suc i) = small-bytes xs (both (ltb x 256) (small xs) e .1) i
-
-zero-bytes : (n : ℕ) → Bytes (replicate n 0)
-zero-bytes zero i = omega arith
-zero-bytes (suc n) zero = omega arith
-zero-bytes (suc n) (suc i) = zero-bytes n i
 
 sample-bytes : Bytes sampleRecord
 unfolding sampleRecord

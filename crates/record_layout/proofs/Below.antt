@@ -2,12 +2,13 @@
 use mathlib.Core.Path.{_≡_, refl, sym}
 use mathlib.Core.Bool.{Bool, true, false, and-false}
 use mathlib.Core.Logic.{⊎-elim}
+use mathlib.Core.List.{List}
 use Prim.Native.Nat.{ℕ, zero, suc, _+_, _≤_, _<_}
 use native.Mathlib.Numerals.{add-one}
 use native.Mathlib.Omega.{arith}
 use borrow.Author.Tests.{le-ltb, lt-ltb}
 use Rattle.fields.proofs.Tests.{both, le-or-lt}
-use Rattle.record_layout.specs.Every.{below, least}
+use Rattle.record_layout.specs.Every.{below, least, distinct}
 
 pub below-none : (test : ℕ → Bool) → below 0 test ≡ true
 unfolding below
@@ -41,6 +42,15 @@ below-each test zero i e h = absurd (omega arith)
 below-each test (suc n) i e h =
     let p = both (below n test) (test n) e in
     ⊎-elim (λ le. let z : i ≡ n = omega arith in rw z (p .1)) (λ lt. below-each test n i (p .0) lt) (le-or-lt n i)
+
+pub below-all : (test : ℕ → Bool) (n : ℕ) → ((i : ℕ) → i < n → test i ≡ true) → below n test ≡ true
+unfolding below
+below-all test zero h = refl
+below-all test (suc n) h = rw (below-all test n (λ i lt. h i (omega arith)), h n (omega arith))
+
+-- the same GUIDs
+pub distinct-same : (n : ℕ) (f g : ℕ → List ℕ) → ((i : ℕ) → i < n → f i ≡ g i) → distinct n f ≡ distinct n g
+distinct-same n f g h = below-same _ _ n (λ i lt. below-same _ _ i (λ j less. rw (h i lt, h j (omega arith))))
 
 -- ---- a loop that tests the numbers below n: those below i hold
 pub record Passed (test : ℕ → Bool) (n i : ℕ) : Type 0 where

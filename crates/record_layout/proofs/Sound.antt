@@ -1,15 +1,19 @@
 -- What a sound record is known by. Assumes nothing.
 use mathlib.Core.Path.{_≡_, refl, sym, ap, _∙_}
-use mathlib.Core.Bool.{Bool, true, false, _&&_, and-assoc, and-false}
+use mathlib.Core.Bool.{Bool, true, false, cond, not, _&&_, and-assoc, and-false}
 use mathlib.Core.List.{List, [], _∷_}
 use Prim.Native.Nat.{ℕ, zero, suc, _≤_, _<_}
 use borrow.Author.Tests.{eqb-true, leb-true, ltb-true}
 use lib.Dec.{eqb, leb, ltb}
 use lib.ListN.{length, take, drop}
 use Rattle.fields.proofs.Tests.{no-true, both}
-use Rattle.record_layout.specs.Layout.{headerSize, imageLimit, bankLimit, crc, version, active, previous, size, bankCount, imageCount, recordSize}
-use Rattle.record_layout.specs.Rules.{versionRule, bankCountRule, imageCountRule, sizeRule, banksNamedRule, crcOf, crcRule, rules, each, sound}
+use Rattle.record_layout.specs.Every.{below, distinct}
+use Rattle.record_layout.specs.Layout.{headerSize, imageLimit, bankLimit, crc, version, active, previous, size, bankCount}
+use Rattle.record_layout.specs.Layout.{imageCount, recordSize, typeGuid, accepted}
+use Rattle.record_layout.specs.Rules.{versionRule, bankCountRule, imageCountRule, sizeRule, banksNamedRule, acceptedRule}
+use Rattle.record_layout.specs.Rules.{typeGuidsRule, invalid, valid, acceptedBank, crcOf, crcRule, rules, each, sound}
 use Rattle.record_layout.specs.Sized.{Sized, firstSix, lastEight}
+use Rattle.record_layout.proofs.Below.{below-each}
 use Rattle.record_layout.proofs.Sizes.{header-in}
 
 -- tests in two parts
@@ -82,10 +86,37 @@ pub sound-named : (r : List ℕ) → sound r ≡ true → (active r < bankCount 
 unfolding sound
 sound-named r e = named-of r (all-of rules r e .1 .1 .1 .1 .1 .1 .1 .1 .0)
 
+-- the accepted field of an image in a bank is 0 or 1, and type GUIDs are all different
+pub sound-accepted : (r : List ℕ) (i b : ℕ) → sound r ≡ true → i < imageCount r → b < bankCount r → accepted r i b ≤ 1
+unfolding sound acceptedRule
+sound-accepted r i b e p q =
+    leb-true (accepted r i b) 1
+    (below-each (λ (k : ℕ). leb (accepted r i k) 1) (bankCount r) b
+    (below-each (λ (j : ℕ). below (bankCount r) (λ (k : ℕ). leb (accepted r j k) 1)) (imageCount r) i
+    (all-of rules r e .1 .1 .1 .1 .1 .1 .1 .1 .1 .0) p) q)
+
+pub sound-different : (r : List ℕ) → sound r ≡ true → distinct (imageCount r) (typeGuid r) ≡ true
+unfolding sound typeGuidsRule
+sound-different r e = all-of rules r e .1 .1 .1 .1 .1 .1 .1 .1 .1 .1 .0
+
 -- its CRC is the one that it has
 pub sound-crc : (r : List ℕ) → sound r ≡ true → crc r ≡ crcOf r
 unfolding sound crcRule
 sound-crc r e = eqb-true (crc r) (crcOf r) (all-of rules r e .1 .1 .1 .1 .1 .1 .1 .1 .1 .1 .1 .1 .1 .0)
+
+-- rule 13 for one bank: its state, and whether all its images are accepted
+unfoldable pub bankFits : ℕ → Bool → Bool
+bankFits s all = cond (eqb s acceptedBank) all (cond (eqb s valid) (not all) true)
+
+-- a bank that is what its images make of it fits, and is not 255
+pub fits-ended : (all : Bool) → bankFits (cond all acceptedBank valid) all ≡ true
+unfolding bankFits
+fits-ended true = refl
+fits-ended false = refl
+
+pub live-ended : (all : Bool) → eqb (cond all acceptedBank valid) invalid ≡ false
+live-ended true = refl
+live-ended false = refl
 
 -- one test that fails
 abbrev pub testAt : ℕ → List (List ℕ → Bool) → List ℕ → Bool

@@ -5,12 +5,11 @@ use mathlib.Core.Logic.{⊎-elim}
 use mathlib.Core.List.{List}
 use Prim.Native.Nat.{ℕ, _≤_, _<_}
 use native.Mathlib.Omega.{arith}
-use borrow.Author.Tests.{leb-true, eqb-true}
-use lib.Dec.{eqb, leb, ltb}
+use borrow.Author.Tests.{eqb-true}
+use lib.Dec.{eqb, ltb}
 use Rattle.fields.proofs.Tests.{either}
-use Rattle.record_layout.specs.Every.{below}
-use Rattle.record_layout.specs.Layout.{bankLimit, imageLimit, recordLimit, active, previous, size, state, bankCount, imageCount, accepted}
-use Rattle.record_layout.specs.Rules.{invalid, valid, acceptedBank, acceptedRule, stateKnown, stateAllowed, statesRule, rules, sound}
+use Rattle.record_layout.specs.Layout.{bankLimit, imageLimit, recordLimit, active, previous, size, state, bankCount, imageCount}
+use Rattle.record_layout.specs.Rules.{invalid, valid, acceptedBank, stateKnown, stateAllowed, statesRule, rules, sound}
 use Rattle.record_layout.proofs.Below.{below-each}
 use Rattle.record_layout.proofs.Sizes.{record-high}
 use Rattle.record_layout.proofs.Sound.{all-of, sound-sized, sound-size, sound-named}
@@ -42,14 +41,6 @@ module _ (r : List ℕ) (e : sound r ≡ true) where
 
   pub small-previous : previous r < bankLimit
   small-previous = omega (arith, sound-named r e .1, few-banks)
-
-  -- the accepted field of an image in a bank is 0 or 1
-  pub accepted-bit : (i b : ℕ) → i < imageCount r → b < bankCount r → accepted r i b ≤ 1
-  unfolding sound acceptedRule
-  accepted-bit i b p q =
-      leb-true (accepted r i b) 1
-      (below-each (λ (k : ℕ). leb (accepted r i k) 1) (bankCount r) b
-      (below-each (λ (j : ℕ). below (bankCount r) (λ (k : ℕ). leb (accepted r j k) 1)) (imageCount r) i (all-of rules r e .1 .1 .1 .1 .1 .1 .1 .1 .1 .0) p) q)
 
   pub state-byte : (b : ℕ) → b < bankCount r → state r b ≤ 255
   unfolding sound statesRule stateAllowed

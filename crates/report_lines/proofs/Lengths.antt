@@ -7,12 +7,13 @@ use native.Mathlib.Omega.{arith}
 use lib.ListN.{length, length-append}
 use Rattle.record_layout.specs.Layout.{active, previous, size, state, bankCount, imageCount, accepted}
 use Rattle.record_layout.specs.Rules.{sound}
+use Rattle.record_layout.proofs.Sound.{sound-accepted}
 use Rattle.report_text.specs.Text.{ascii, decimal, numbers, line, ascending}
 use Rattle.report_text.specs.Wrote.{Room}
 use Rattle.report_text.proofs.Digits.{one-digit, two-digits, three-digits, four-digits}
 use Rattle.report_text.proofs.Lines.{ascending-short}
 use Rattle.report_lines.specs.Lines.{bankLine, imageLine, imageLines, headLines, recordLines}
-use Rattle.report_lines.proofs.Known.{few-banks, few-images, small-size, small-active, small-previous, accepted-bit, state-byte}
+use Rattle.report_lines.proofs.Known.{few-banks, few-images, small-size, small-active, small-previous, state-byte}
 
 -- how long a line is
 length-numbers : (n : ℕ) (ns : List ℕ) → length (numbers (n ∷ ns)) ≡ 1 + length (decimal n) + length (numbers ns)
@@ -72,7 +73,7 @@ module _ (r : List ℕ) (e : sound r ≡ true) where
         length-end,
         two-digits i (omega (arith, few-images r e)),
         one-digit b (omega (arith, few-banks r e)),
-        one-digit (accepted r i b) (omega (arith, accepted-bit r e i b p q)),
+        one-digit (accepted r i b) (omega (arith, sound-accepted r i b e p q)),
       )
 
   images-short : (i : ℕ) → i < imageCount r → length (imageLines r i) ≤ 52
