@@ -118,6 +118,8 @@
  *       meanderpeg_capsule_image_index           192    meanderpeg_cancel                        256
  *       meanderpeg_capsule_hardware_instance     192    meanderpeg_accept                        384
  *       meanderpeg_soundness                     192    meanderpeg_select_previous               384
+ *       meanderpeg_directory_write               192    meanderpeg_directory_type_guid            64
+ *       meanderpeg_directory_check                64    meanderpeg_directory_numbers              64
  */
 #ifndef MEANDERPEG_H
 #define MEANDERPEG_H
@@ -481,9 +483,17 @@ MEANDERPEG_FUNCTION uint32_t meanderpeg_directory_check(const uint8_t *directory
 MEANDERPEG_FUNCTION uint32_t meanderpeg_directory_type_guid(const uint8_t *directory, size_t length, size_t k,
                                                             struct meanderpeg_part *part)
     MEANDERPEG_READS(1) MEANDERPEG_SETS(4);
+/* C++ finds the function by this name, and the struct where `struct` stands before it, as in C: no cause for a warning. */
+#if defined(__cplusplus) && defined(__GNUC__)
+#pragma GCC diagnostic push
+#pragma GCC diagnostic ignored "-Wshadow"
+#endif
 MEANDERPEG_FUNCTION uint32_t meanderpeg_directory_numbers(const uint8_t *directory, size_t length, size_t k,
                                                           struct meanderpeg_directory_numbers *numbers)
     MEANDERPEG_READS(1) MEANDERPEG_SETS(4);
+#if defined(__cplusplus) && defined(__GNUC__)
+#pragma GCC diagnostic pop
+#endif
 
 /* ---- Refusals in words ---- */
 

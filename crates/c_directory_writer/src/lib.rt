@@ -6,7 +6,7 @@ ghost use Rattle.directory_writer.specs.Writer.{written};
 ghost use Rattle.c_reply.specs.Replied.{replied};
 
 // Returns 0 and sets how many bytes were written at the front of `directory`; or returns the refusal, N20, N21, N28 or
-// N40 to N42, and alters nothing (X5, X10). A reader wants exactly so many bytes.
+// N40 to N42, and alters nothing (X5, I8). A reader wants exactly so many bytes.
 #[no_mangle]
 pub extern "C" fn meanderpeg_directory_write(
     area: &[u8],

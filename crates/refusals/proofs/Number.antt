@@ -4,7 +4,8 @@ use native.Mathlib.Omega.{arith}
 use Rattle.refusals.specs.Number.{numberOf}
 use Rattle.refusals.specs.declared.Refusal.{Refusal}
 use Rattle.refusals.specs.declared.Refusal.the-variants.{WindowEnd, DescriptorCount, DescriptorAddress, BlockOutside, TotalLength, TotalZero, NoPlace, CapsuleShort, CapsuleSizes, CapsuleFlags, CapsuleGuid, CapsuleBody, CapsulePayload, NoItem, AreaLength, NoSoundCopy, NotSoundAndEqual, StoreSlice, StagingFault, SessionState, NoImage, ImagesMissing, BootedBank}
-use Rattle.refusals.specs.declared.Refusal.the-variants.{DirectoryWords, DirectoryPermissions, DirectoryRoom, DirectoryShort, DirectoryHeader, DirectoryLength, DirectoryEntries}
+use Rattle.refusals.specs.declared.Refusal.the-variants.{DirectoryWords, DirectoryPermissions, DirectoryRoom}
+use Rattle.refusals.specs.declared.Refusal.the-variants.{DirectoryShort, DirectoryHeader, DirectoryLength, DirectoryEntries}
 
 pub number-positive : (r : Refusal) → 1 ≤ numberOf r
 number-positive WindowEnd = omega arith

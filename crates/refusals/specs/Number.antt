@@ -3,7 +3,8 @@ use Prim.Native.Nat.{ℕ}
 use mathlib.Core.List.{List, [], _∷_}
 use Rattle.refusals.specs.declared.Refusal.{Refusal}
 use Rattle.refusals.specs.declared.Refusal.the-variants.{WindowEnd, DescriptorCount, DescriptorAddress, BlockOutside, TotalLength, TotalZero, NoPlace, CapsuleShort, CapsuleSizes, CapsuleFlags, CapsuleGuid, CapsuleBody, CapsulePayload, NoItem, AreaLength, NoSoundCopy, NotSoundAndEqual, StoreSlice, StagingFault, SessionState, NoImage, ImagesMissing, BootedBank}
-use Rattle.refusals.specs.declared.Refusal.the-variants.{DirectoryWords, DirectoryPermissions, DirectoryRoom, DirectoryShort, DirectoryHeader, DirectoryLength, DirectoryEntries}
+use Rattle.refusals.specs.declared.Refusal.the-variants.{DirectoryWords, DirectoryPermissions, DirectoryRoom}
+use Rattle.refusals.specs.declared.Refusal.the-variants.{DirectoryShort, DirectoryHeader, DirectoryLength, DirectoryEntries}
 
 -- A refusal's number is that of its rule, so 24 is N24's. Beside it 27 tells how many images are missing
 abbrev pub told : Refusal → ℕ × List ℕ

@@ -17,6 +17,13 @@
 //     s L                    soundness: number, bits (99 with a refusal)
 //     t digest L n           the report in the first n bytes of 4,352 that all hold 99: pushes the digest with the
 //                            count answered and all 4,352 bytes, or as it was where n is above that
+//     w digest L booted n room   the directory of the area m[0..L], the booted bank and n words, which stand from
+//                            230,000 on as 32-bit numbers; it is written into the first `room` bytes of 2,700 that all
+//                            hold 99: number, length (99 with a refusal). Pushes the digest with both and with all
+//                            2,700 bytes, and puts these at 220,000. Nothing with n above 300 or room above 2,700
+//     i length k             the directory m[0..length]: number (1000 where the functions return different ones);
+//                            images, correct_boot; start and length of entry k's type GUID; its five numbers: as the
+//                            functions leave them, each 99 before
 // A session's kind, bank and set are 32-bit numbers, given as they are; with a refusal they are what the call left
 // there. Where a length is past m or out, nothing is done.
 use test_area_functions::apply;
@@ -26,6 +33,8 @@ use test_call_functions::entry;
 use test_capsule_functions::gather;
 use test_capsule_functions::parts;
 use test_capsule_functions::told_of_item;
+use test_directory_functions::read;
+use test_directory_functions::write;
 use test_machine::pop;
 use test_machine::push;
 
@@ -46,6 +55,8 @@ fn function(w: &mut [u64; 256], m: &mut [u8], out: &mut [u32], c: u8) {
         }
         b's' => soundness(w, m),
         b't' => report(w, m),
+        b'w' => write(w, m),
+        b'i' => read(w, m),
         _ => {}
     }
 }

@@ -34,7 +34,8 @@ put-entry-requires c κs =
     let l = c .before .before in
     let n = l .before in
     let s = n .before .before .before .before in
-    (s .pre .0, omega (arith, c .before .loop-test .taken, n .image-count .ensures), s .pre .1, s .pre .2, omega (arith, s .pre .3, l .loop .inv .1))
+    let low : l .loop .i < imageCount (s .args .r .now) = omega (arith, c .before .loop-test .taken, n .image-count .ensures) in
+    (s .pre .0, low, s .pre .1, s .pre .2, omega (arith, s .pre .3, l .loop .inv .1))
 
 loop-again : tie.Need-loop-again Inv-loop μ-loop
 loop-again c =

@@ -52,7 +52,8 @@ returns c =
     let s = b .before .before .before .before in
     let a = s .args in
     let r = a .r .now in
-    entry-put (installedEntry r (a .booted) (a .words .now) (a .i)) (guid-long r (a .i) (s .pre .0) (s .pre .1)) (a .out .now) _ (omega (arith, s .pre .4))
+    let long = guid-long r (a .i) (s .pre .0) (s .pre .1) in
+    entry-put (installedEntry r (a .booted) (a .words .now) (a .i)) long (a .out .now) _ (omega (arith, s .pre .4))
     (rw (e .entry-at .ensures .0, b .bank-count .ensures) at (g .write-guid .ensures))
     (rw (add-zero, ← f .accepted-word .ensures) (w .write-words .ensures))
 

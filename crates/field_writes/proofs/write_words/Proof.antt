@@ -17,7 +17,10 @@ abbrev μ-loop : tie.MeasureT-loop
 μ-loop s₀ at words i₀ s i = length words - i
 
 loop-holds : tie.Need-loop-holds Inv-loop μ-loop
-loop-holds c = let a = c .before .before .args in (omega arith, refl, words-none (a .s .now) (a .at) (a .words .now) (c .before .before .pre))
+loop-holds c =
+    let s = c .before .before in
+    let a = s .args in
+    (omega arith, refl, words-none (a .s .now) (a .at) (a .words .now) (s .pre))
 
 write32-requires : tie.Need-write32-requires Inv-loop μ-loop
 write32-requires c κs = let l = c .before .before .before in omega (arith, l .loop .inv .1, l .before .before .before .pre)

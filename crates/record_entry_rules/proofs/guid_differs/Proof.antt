@@ -39,7 +39,8 @@ same-guid-requires c κs = let p = c .before .before .before .pre in (omega (ari
 -- what the comparison answered
 tested : (c : tie.After-same-guid Inv-loop μ-loop)
     → let l = c .before .before in let a = l .before .before .args in
-    c .same-guid .result ≡ same (guidEvery (a .step) (a .first) (a .s .now) (l .loop .j)) (guidEvery (a .step) (a .first) (a .s .now) (a .i))
+    let at = guidEvery (a .step) (a .first) (a .s .now) in
+    c .same-guid .result ≡ same (at (l .loop .j)) (at (a .i))
 tested c = let l = c .before .before in rw (← l .loop .inv .1, ← l .before .before .pre .0) (c .same-guid .ensures)
 
 returns : tie.Need-returns Inv-loop μ-loop
@@ -60,7 +61,8 @@ loop-again : tie.Need-loop-again Inv-loop μ-loop
 loop-again c =
     let t = c .before .before in
     let l = t .before in
-    (passed-more (l .loop .inv .0) (t .loop-test .taken) (ap not (sym (tested (c .before)) ∙ c .if1 .left)), step-more _ _ _ (l .loop .inv .1))
+    let p = passed-more (l .loop .inv .0) (t .loop-test .taken) (ap not (sym (tested (c .before)) ∙ c .if1 .left)) in
+    (p, step-more _ _ _ (l .loop .inv .1))
 
 returns-2 : tie.Need-returns-2 Inv-loop μ-loop
 returns-2 c = sym (passed-all (c .before .loop .inv .0) (c .loop-test .left))

@@ -59,7 +59,8 @@ loop-again : tie.Need-loop-again Inv-loop μ-loop
 loop-again c =
     let t = c .before .before in
     let l = t .before in
-    (passed-more (l .loop .inv .0) (t .loop-test .taken) (sym (c .before .guid-differs .ensures) ∙ not-false _ (c .if1 .left)), step-more _ _ _ (l .loop .inv .1))
+    let p = passed-more (l .loop .inv .0) (t .loop-test .taken) (sym (c .before .guid-differs .ensures) ∙ not-false _ (c .if1 .left)) in
+    (p, step-more _ _ _ (l .loop .inv .1))
 
 returns-2 : tie.Need-returns-2 Inv-loop μ-loop
 returns-2 c = sym (passed-all (c .before .loop .inv .0) (c .loop-test .left))
