@@ -483,7 +483,7 @@ MEANDERPEG_FUNCTION uint32_t meanderpeg_directory_check(const uint8_t *directory
 MEANDERPEG_FUNCTION uint32_t meanderpeg_directory_type_guid(const uint8_t *directory, size_t length, size_t k,
                                                             struct meanderpeg_part *part)
     MEANDERPEG_READS(1) MEANDERPEG_SETS(4);
-/* C++ finds the function by this name, and the struct where `struct` stands before it, as in C: no cause for a warning. */
+/* By this name C++ finds the function, and the struct where `struct` stands before it, as in C: no cause to warn. */
 #if defined(__cplusplus) && defined(__GNUC__)
 #pragma GCC diagnostic push
 #pragma GCC diagnostic ignored "-Wshadow"
