@@ -21,7 +21,7 @@ pub extern "C" fn meanderpeg_directory_write(
 {
     let answer = directory_writer::write_directory(area, booted, words, directory);
     match answer {
-        Written::Bytes(n) => {
+        Written::Length(n) => {
             *length = n;
             0
         }

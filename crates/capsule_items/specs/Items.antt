@@ -3,11 +3,6 @@
 use Rattle.fields.specs.Part.{Range, range, emptyAtStart}
 use Rattle.capsule_check.specs.declared.Item.{Item}
 use Rattle.capsule_check.specs.declared.Item.the-variants.{Driver, Payload, Refused}
-use Rattle.capsule_items.specs.declared.Span.{Span}
-
--- what the code's own `Span` tells
-abbrev pub rangeOf : Span → Range
-rangeOf p = range (p .start) (p .end)
 
 -- the whole item, of either kind (C18); a refusal answers the empty part at the capsule's start (C24)
 abbrev pub itemPart : Item → Range

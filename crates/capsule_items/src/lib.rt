@@ -2,18 +2,14 @@
 // first and has no condition: a refused one answers the empty part at the capsule's start, and `refusal` says which
 // refusal it was, or none, for the same capsule and item number. What an item holds is handed out by crate
 // capsule_parts.
+use fields::Span;
+use fields::part_of;
 ghost use mathlib.Core.Path.{_≡_};
 ghost use Rattle.refusal_order.specs.Decide.{verdictNumber};
 ghost use Rattle.capsule_check.specs.Verdict.{refusalNumber};
 ghost use Rattle.capsule_check.specs.Item.{located};
-ghost use Rattle.fields.specs.Part.{IsPart};
-ghost use Rattle.capsule_items.specs.Items.{rangeOf, itemPart};
-
-// The bytes of a capsule from start up to, not including, end.
-struct Span {
-    start: usize,
-    end: usize,
-}
+ghost use Rattle.fields.specs.Part.{IsPart, rangeOf};
+ghost use Rattle.capsule_items.specs.Items.{itemPart};
 
 // The sister of all entries that take an item number: the refusal, 10 to 16, or none.
 pub fn refusal(s: &[u8], k: usize) -> refusal_order::Verdict
@@ -44,5 +40,5 @@ pub fn item(s: &[u8], k: usize) -> &[u8]
     ensures { λ r. ⌜ IsPart (s .entry) r (itemPart (located (now (s .entry)) k)) ⌝ }
 {
     let p = item_span(s, k);
-    fields::part_of(s, p.start, p.end)
+    part_of(s, p.start, p.end)
 }

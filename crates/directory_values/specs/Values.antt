@@ -8,7 +8,6 @@ use Rattle.refusal_order.specs.Decide.{decide}
 use Rattle.directory_layout.specs.Layout.{EntryNumbers, imagesIn, entryStart, numbersIn}
 use Rattle.directory_reader.specs.Reader.{readerTests, ifTaken}
 use Rattle.directory_values.specs.declared.Numbers.{Numbers}
-use Rattle.directory_values.specs.declared.Span.{Span}
 
 -- of entry k: x where there is one, z past the count
 abbrev pub ifEntry : {A : Type 0} → List ℕ → ℕ → (x z : A) → A
@@ -31,10 +30,7 @@ numbersOrZeros d k = ifEntry d k (numbersIn d k) zeroNumbers
 unfoldable pub shownNumbers : List ℕ → ℕ → EntryNumbers
 shownNumbers d k = ifTaken (decide (readerTests d)) (numbersOrZeros d k) zeroNumbers
 
--- what the code's own `Span` and `Numbers` tell
-abbrev pub rangeOf : Span → Range
-rangeOf p = range (p .start) (p .end)
-
+-- what the code's own `Numbers` tells
 abbrev pub numbersOf : Numbers → EntryNumbers
 numbersOf n =
     record {

@@ -12,21 +12,16 @@ use directory_layout::MAXIMUM_SIZE_FROM;
 use directory_layout::PERMISSIONS_FROM;
 use directory_layout::VERSION_FROM;
 use directory_reader::refusal;
+use fields::Span;
 use fields::part_of;
 use fields::read32;
 use refusal_order::Verdict;
 ghost use mathlib.Core.Path.{_≡_};
-ghost use Rattle.fields.specs.Part.{IsPart};
+ghost use Rattle.fields.specs.Part.{IsPart, rangeOf};
 ghost use Rattle.refusal_order.specs.Decide.{decide, passed};
 ghost use Rattle.directory_reader.specs.Reader.{readerTests};
-ghost use Rattle.directory_values.specs.Values.{rangeOf, guidRange, shownGuid};
+ghost use Rattle.directory_values.specs.Values.{guidRange, shownGuid};
 ghost use Rattle.directory_values.specs.Values.{numbersOf, zeroNumbers, numbersOrZeros, shownNumbers};
-
-// The bytes of a directory from start up to, not including, end.
-pub struct Span {
-    pub start: usize,
-    pub end: usize,
-}
 
 // The five numbers of an entry; the second and third are its maximum size and lowest accepted version.
 pub struct Numbers {

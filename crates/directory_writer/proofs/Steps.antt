@@ -21,7 +21,8 @@ use Rattle.update_session.specs.declared.Session.{Session}
 use Rattle.update_start_up.specs.StartUp.{startedSession, startedFrom, startUpTests}
 use Rattle.directory_layout.specs.Layout.{directoryBytes, directorySize}
 use Rattle.directory_entries.specs.Installed.{wordsAnImage}
-use Rattle.directory_writer.specs.Writer.{installed, directoryTests, writerTests, writtenBy, writtenFrom, written}
+use Rattle.directory_writer.specs.Writer.{installed, directoryTests, writerTests, writtenBy, written}
+use Rattle.directory_writer.specs.Step.{writtenFrom}
 
 abbrev Answer : Type 0
 Answer = Reply ℕ × List ℕ

@@ -1,2 +1,3 @@
 -- The writer of an image directory. Assumes nothing.
 pub mod Writer
+pub mod Step

@@ -13,11 +13,11 @@ use Rattle.record_layout.specs.Layout.{imageCount}
 use Rattle.record_copies.specs.Copies.{recordRead}
 use Rattle.update_session.specs.declared.Session.{Session}
 use Rattle.update_session.specs.declared.Session.the-variants.{Regular, Staging, Trial, Fallback, Restart}
-use Rattle.update_start_up.specs.StartUp.{startedSession, bootedTest, startUpTests}
+use Rattle.update_start_up.specs.StartUp.{startedSession, startUpTests}
 use Rattle.directory_layout.specs.Layout.{Directory, directoryBytes, directorySize, upTo, permissionsRight}
 use Rattle.directory_entries.specs.Installed.{wordsAnImage, wordFor, installedEntry}
 use Rattle.directory_writer.specs.declared.Written.{Written}
-use Rattle.directory_writer.specs.declared.Written.the-variants.{Bytes, Refused}
+use Rattle.directory_writer.specs.declared.Written.the-variants.{Length, Refused}
 
 -- I5: correct_boot is 0 exactly where start-up answers Fallback; it never answers Staging or Restart
 abbrev pub correctBootOf : Session → ℕ
@@ -57,7 +57,7 @@ writerTests a booted words room = startUpTests a booted ++ directoryTests (recor
 
 -- what each case of the answer states
 abbrev pub writtenReply : Written → Reply ℕ
-writtenReply (Bytes n) = gives n
+writtenReply (Length n) = gives n
 writtenReply (Refused r) = refusing r
 
 -- I8: how many bytes were written, and the output slice afterwards: the directory at its front, every byte past it as it
@@ -66,12 +66,6 @@ unfoldable pub writtenBy : Decision → (directory out : List ℕ) → Reply ℕ
 writtenBy passed directory out = (gives (length directory), put out 0 directory)
 writtenBy (refusal number values) directory out = (refuses number values, out)
 
--- of a record that is read: 28, 40, 41, 42. A step of the code; `written` is the entry's
-unfoldable pub writtenFrom : (r : List ℕ) (booted : ℕ) (words out : List ℕ) → Reply ℕ × List ℕ
-writtenFrom r booted words out =
-    writtenBy (decide (bootedTest r booted ∷ directoryTests r words (length out))) (directoryBytes (installed r booted words)) out
-
--- of an area: 20, 21, 28, 40, 41, 42
 unfoldable pub written : (a : List ℕ) (booted : ℕ) (words out : List ℕ) → Reply ℕ × List ℕ
 written a booted words out =
     writtenBy (decide (writerTests a booted words (length out))) (directoryBytes (installed (recordRead a) booted words)) out

@@ -29,11 +29,12 @@ ghost use Rattle.record_layout.specs.Rules.{sound};
 ghost use Rattle.update_start_up.specs.StartUp.{startedSession};
 ghost use Rattle.directory_layout.specs.Layout.{permissionsRight, directoryBytes, directorySize};
 ghost use Rattle.directory_entries.specs.Installed.{wordsAnImage, wordFor};
-ghost use Rattle.directory_writer.specs.Writer.{correctBootOf, installed, directoryTests, writtenReply, writtenFrom, written};
+ghost use Rattle.directory_writer.specs.Writer.{correctBootOf, installed, directoryTests, writtenReply, written};
+ghost use Rattle.directory_writer.specs.Step.{writtenFrom};
 
 // How many bytes were written, or the refusal.
 pub enum Written {
-    Bytes(usize),
+    Length(usize),
     Refused(Refusal),
 }
 
@@ -113,7 +114,7 @@ fn write_from(r: &[u8], booted: u32, words: &[u32], out: &mut [u8]) -> Written
             let verdict = admit(r, words, out.len());
             match verdict {
                 Verdict::Refused(why) => Written::Refused(why),
-                Verdict::Passed => Written::Bytes(put_directory(r, booted, session, words, out)),
+                Verdict::Passed => Written::Length(put_directory(r, booted, session, words, out)),
             }
         }
     }

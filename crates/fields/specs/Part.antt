@@ -4,6 +4,7 @@ use mathlib.Core.Path.{_≡_}
 use mathlib.Core.List.{List, [], _∷_}
 use lib.ListN.{length, take, drop}
 use denote.Ref.{RefT, ptr, now}
+use Rattle.fields.specs.declared.Span.{Span}
 
 -- the bytes of s from a up to, not including, e
 abbrev pub part : List ℕ → ℕ → ℕ → List ℕ
@@ -16,6 +17,10 @@ pub record Range : Type 0 where
 
 abbrev pub range : ℕ → ℕ → Range
 range a e = record { start = a; end = e }
+
+-- what the code's own `Span` tells
+abbrev pub rangeOf : Span → Range
+rangeOf p = range (p .start) (p .end)
 
 -- the part that stands for none
 abbrev pub emptyAtStart : Range

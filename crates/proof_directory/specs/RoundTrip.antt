@@ -24,7 +24,7 @@ Words w = (i : ℕ) → getD w i 0 < 2 ^ 32
 abbrev pub Taken : (d : List ℕ) → Type 0
 Taken d = decide (readerTests d) ≡ passed
 
--- all that the reader's entries show of d: entry k by the bytes of its type GUID's part and by its five numbers
+-- all that the reader's functions show of d: entry k by the bytes of its type GUID's part and by its five numbers
 abbrev pub shownEntry : (d : List ℕ) (k : ℕ) → DirectoryEntry
 shownEntry d k = record { typeGuid = part d (shownGuid d k .start) (shownGuid d k .end); numbers = shownNumbers d k }
 

@@ -1,5 +1,5 @@
 // What every call tests of the area and the store slice before it looks at its session: 20, 23, 21 and 22 (N110). The
-// tests themselves, which start-up, repair and the report list too, are in specs/Rows.antt.
+// tests themselves, which start-up, repair, the report and the directory's writer list too, are in specs/Rows.antt.
 use record_copies::Source;
 use record_copies::read_source;
 use record_copies::second_agrees;

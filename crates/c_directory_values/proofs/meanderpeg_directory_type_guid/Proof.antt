@@ -1,11 +1,11 @@
 -- `meanderpeg_directory_type_guid` meets its contract: a type GUID that is shown lies in the directory. Assumes nothing.
 use mathlib.Core.Path.{_≡_, sym, ap, _∙_}
 use borrow.Author.Needs.{needs}
-use Rattle.fields.specs.Part.{Lies}
+use Rattle.fields.specs.Part.{rangeOf, Lies}
 use Rattle.fields.proofs.Part.{part-length}
 use Rattle.refusal_order.specs.Decide.{decisionOf, decide, passed, reply}
 use Rattle.directory_reader.specs.Reader.{readerTests}
-use Rattle.directory_values.specs.Values.{rangeOf, shownGuid}
+use Rattle.directory_values.specs.Values.{shownGuid}
 use Rattle.directory_values.proofs.Lies.{guid-lies}
 use Rattle.c_directory_values.proofs.meanderpeg_directory_type_guid.Statement.{statement}
 use Rattle.c_directory_values.proofs.meanderpeg_directory_type_guid.Tie as tie
