@@ -9,7 +9,7 @@ void discarded(uint8_t *bytes, uint32_t *numbers, struct meanderpeg_session sess
     struct meanderpeg_counts counts = {0};
     struct meanderpeg_part part = {0};
     struct meanderpeg_directory shown = {0};
-    struct meanderpeg_directory_numbers five = {0};
+    struct meanderpeg_directory_entry five = {0};
     uint64_t instance = 0;
     size_t length = 0;
     meanderpeg_gather(bytes, 1, 0, 0, &gathered);

@@ -26,12 +26,12 @@ BYTES(struct meanderpeg_answer, 32);
 AT(meanderpeg_directory, images, 0);
 AT(meanderpeg_directory, correct_boot, 4);
 BYTES(struct meanderpeg_directory, 8);
-AT(meanderpeg_directory_numbers, permissions, 0);
-AT(meanderpeg_directory_numbers, maximum_size, 4);
-AT(meanderpeg_directory_numbers, lowest_accepted_version, 8);
-AT(meanderpeg_directory_numbers, version, 12);
-AT(meanderpeg_directory_numbers, accepted, 16);
-BYTES(struct meanderpeg_directory_numbers, 20);
+AT(meanderpeg_directory_entry, permissions, 0);
+AT(meanderpeg_directory_entry, maximum_size, 4);
+AT(meanderpeg_directory_entry, lowest_accepted_version, 8);
+AT(meanderpeg_directory_entry, version, 12);
+AT(meanderpeg_directory_entry, accepted, 16);
+BYTES(struct meanderpeg_directory_entry, 20);
 BYTES(size_t, 8);
 BYTES(void *, 8);
 #if __BYTE_ORDER__ != __ORDER_LITTLE_ENDIAN__

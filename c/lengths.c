@@ -54,7 +54,7 @@ void calls(struct meanderpeg_session s) {
 
 void directories(void) {
     struct meanderpeg_directory shown = {0};
-    struct meanderpeg_directory_numbers five = {0};
+    struct meanderpeg_directory_entry five = {0};
     struct meanderpeg_part part = {0};
     uint8_t room[100] = {0};
     size_t length = 0;
@@ -89,4 +89,4 @@ UNWRITTEN(length, size_t x, meanderpeg_directory_write, 0, numbers, 100, guid, 1
 UNWRITTEN(words, uint32_t x[4], meanderpeg_directory_write, 0, x, 4, guid, 16, &(size_t){0})
 UNWRITTEN(shown, struct meanderpeg_directory x, meanderpeg_directory_check, &x)
 UNWRITTEN(part, struct meanderpeg_part x, meanderpeg_directory_type_guid, 0, &x)
-UNWRITTEN(five, struct meanderpeg_directory_numbers x, meanderpeg_directory_numbers, 0, &x)
+UNWRITTEN(five, struct meanderpeg_directory_entry x, meanderpeg_directory_numbers, 0, &x)

@@ -445,7 +445,7 @@ static uint32_t show_directory(size_t length) {
 
 static void show_entry(size_t length, size_t entry) {
     struct meanderpeg_part part = {99, 99};
-    struct meanderpeg_directory_numbers n = {91, 92, 93, 94, 95};
+    struct meanderpeg_directory_entry n = {91, 92, 93, 94, 95};
     uint32_t refusals[2] = {meanderpeg_directory_type_guid(directory, length, entry, &part),
                             meanderpeg_directory_numbers(directory, length, entry, &n)};
     printf("   entry %zu: %" PRIu32 " %" PRIu32 ", permissions %" PRIu32 ", maximum size %" PRIu32

@@ -127,7 +127,7 @@ static uint64_t instance;
 static uint32_t copies;
 static size_t length;
 static struct meanderpeg_directory shown;
-static struct meanderpeg_directory_numbers numbers;
+static struct meanderpeg_directory_entry numbers;
 
 CALLED(gather, refusal = meanderpeg_gather(window, WINDOW, BASE, BASE, &gathered))
 CALLED(capsule_check, refusal = meanderpeg_capsule_check(capsule, CAPSULE, &counts))

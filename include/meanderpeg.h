@@ -85,8 +85,8 @@
  *   - What is passed for writing (a pointer without const) shares no byte with anything else passed to the same call.
  *     Nobody else, no device either, writes what is passed before the call returns. Numbers and structs are aligned as
  *     C asks.
- *   - A capsule stays as it was checked until its parts have been used: check a copy that nobody else can write. It and
- *     its parts lie at any alignment: read numbers byte by byte or by memcpy, and cast no pointer.
+ *   - A capsule or directory stays as it was checked until its parts have been used: check a copy that nobody else can
+ *     write. It and its parts lie at any alignment: read numbers byte by byte or by memcpy, and cast no pointer.
  *   - Each image is authenticated before meanderpeg_commit, at the latest before meanderpeg_end.
  *   - In firmware and kernels: masking stops neither NMI nor machine check, so that where the archive uses the red zone
  *     their handlers need a stack of their own (IST); where it uses xmm0 and xmm1, a kernel saves them around a call.
@@ -236,7 +236,8 @@ enum meanderpeg_request {
     MEANDERPEG_IMAGE_UNACCEPTED = 1 /* on trial, after a restart into its bank, until meanderpeg_accept */
 };
 
-/* What a client may do with an image: the bits of an image's permissions in its directory, added up. */
+/* What a client may do with an image: the bits of an image's permissions in its directory, added up. The library only
+ * passes them on: no call looks at them, and holding a client to them is the caller's. */
 enum meanderpeg_permission {
     MEANDERPEG_PERMISSION_WRITE = 1,
     MEANDERPEG_PERMISSION_READ = 2,
@@ -252,7 +253,8 @@ enum {
     MEANDERPEG_DIRECTORY_HEADER_BYTES = 24,
     MEANDERPEG_DIRECTORY_ENTRY_BYTES = 40,
     MEANDERPEG_DIRECTORY_BYTES = 1304,   /* the longest directory, 24 + 40 * 32: room for every one */
-    MEANDERPEG_DIRECTORY_IMAGE_WORDS = 4 /* as many words as meanderpeg_directory_write wants for each image */
+    MEANDERPEG_DIRECTORY_IMAGE_WORDS = 4 /* as many words as meanderpeg_directory_write wants for each image
+                                            (MEANDERPEG_DIRECTORY_WORDS is refusal 40) */
 };
 
 /* ---- Structs ---- */
@@ -267,7 +269,8 @@ struct meanderpeg_counts {
     size_t payloads;
 };
 
-/* a part of a capsule, or of a directory: capsule + start has `length` bytes of it, at any alignment */
+/* a part of a capsule or of a directory: the capsule's or directory's pointer + start has `length` bytes of it, at any
+ * alignment */
 struct meanderpeg_part {
     size_t start;
     size_t length;
@@ -294,9 +297,9 @@ struct meanderpeg_directory {
 };
 
 /* an entry of a directory, but for its type GUID */
-struct meanderpeg_directory_numbers {
+struct meanderpeg_directory_entry {
     uint32_t permissions;             /* bits of enum meanderpeg_permission; bits 31 to 3 are zero */
-    uint32_t maximum_size;            /* of an image that can be installed, in bytes */
+    uint32_t maximum_size;            /* of an image that can be installed */
     uint32_t lowest_accepted_version; /* an older one may not run here */
     uint32_t version;                 /* in the bank that was started, as is `accepted` */
     uint32_t accepted;                /* 0 or 1 */
@@ -452,14 +455,17 @@ MEANDERPEG_FUNCTION struct meanderpeg_answer meanderpeg_select_previous(struct m
  * `booted` is as for meanderpeg_start_up, and one sound copy of the record is enough here too.
  *
  * `words` is what the record does not tell: four numbers for each of its images, in its order; words_length counts
- * numbers.
+ * numbers, so 4 * images, not sizeof words. In the copy that is read the image count is the 16-bit number at 34, and
+ * image i has its type GUID at 40 + i * (32 + 24 * banks), banks being the byte at 32.
  *   words[4 * i]      permissions of image i, of enum meanderpeg_permission: bit 0 write, bit 1 read, bit 2 the image
  *                     must be activated before it can be accepted, bits 31 to 3 zero
- *   words[4 * i + 1]  the maximum size of an image, in bytes
+ *   words[4 * i + 1]  the maximum size of an image that can be installed
  *   words[4 * i + 2]  the lowest version that is accepted
  *   words[4 * i + 3]  the version of the image in bank `booted`
  * Words past those of the last image are not looked at. From the record come the type GUIDs, and the accepted flags as
- * they are in bank `booted`. correct_boot is 0 exactly where meanderpeg_start_up gives Fallback; in Trial it is 1.
+ * they are in bank `booted`. correct_boot is 0 exactly where meanderpeg_start_up gives Fallback; in Trial it is 1. It
+ * goes by the record as it is now: between the stores of meanderpeg_end or meanderpeg_select_previous and the restart
+ * the bank that runs need not be the one that was active when it was started.
  *
  * Refusals 20, 21 and 28, as start-up gives them, then 40, 41, 42. */
 MEANDERPEG_FUNCTION uint32_t meanderpeg_directory_write(const uint8_t *area, size_t area_length, uint32_t booted,
@@ -483,17 +489,9 @@ MEANDERPEG_FUNCTION uint32_t meanderpeg_directory_check(const uint8_t *directory
 MEANDERPEG_FUNCTION uint32_t meanderpeg_directory_type_guid(const uint8_t *directory, size_t length, size_t k,
                                                             struct meanderpeg_part *part)
     MEANDERPEG_READS(1) MEANDERPEG_SETS(4);
-/* By this name C++ finds the function, and the struct where `struct` stands before it, as in C: no cause to warn. */
-#if defined(__cplusplus) && defined(__GNUC__)
-#pragma GCC diagnostic push
-#pragma GCC diagnostic ignored "-Wshadow"
-#endif
 MEANDERPEG_FUNCTION uint32_t meanderpeg_directory_numbers(const uint8_t *directory, size_t length, size_t k,
-                                                          struct meanderpeg_directory_numbers *numbers)
+                                                          struct meanderpeg_directory_entry *numbers)
     MEANDERPEG_READS(1) MEANDERPEG_SETS(4);
-#if defined(__cplusplus) && defined(__GNUC__)
-#pragma GCC diagnostic pop
-#endif
 
 /* ---- Refusals in words ---- */
 

@@ -57,7 +57,7 @@ pub struct Directory {
     pub correct_boot: u32,
 }
 
-/// `struct meanderpeg_directory_numbers`.
+/// `struct meanderpeg_directory_entry`.
 #[derive(Clone, Copy, PartialEq, Eq, Debug)]
 #[repr(C)]
 pub struct DirectoryNumbers {

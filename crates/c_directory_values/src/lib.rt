@@ -33,7 +33,7 @@ pub extern "C" fn meanderpeg_directory_type_guid(d: &[u8], k: usize, part: &mut 
     }
 }
 
-// Its five numbers. The array of five has the layout of struct meanderpeg_directory_numbers.
+// Its five numbers. The array of five has the layout of struct meanderpeg_directory_entry.
 #[no_mangle]
 pub extern "C" fn meanderpeg_directory_numbers(d: &[u8], k: usize, numbers: &mut [u32; 5]) -> u32
     ensures { λ r. ⌜ (r, now (numbers .exit)) ≡ replied (reply (decide (readerTests (now (d .entry))))

@@ -83,8 +83,8 @@ pub fn write_new(path: &Path, bytes: &[u8]) -> Result<(), Failure> {
     file.map_err(|why| Failure::file(path, why))
 }
 
-/// Writes a file whole or not at all: into one beside it, which then takes its place. What is there and no plain file, a
-/// device or a link, is not replaced.
+/// Writes a file whole or not at all: into one beside it, which then takes its place. What is there and no plain file,
+/// a device or a link, is not replaced.
 pub fn replace(path: &Path, bytes: &[u8]) -> Result<(), Failure> {
     if path.symlink_metadata().is_ok_and(|there| !there.is_file()) {
         return Err(Failure::file(path, "it is there and no plain file, so it is not replaced"));

@@ -1,5 +1,6 @@
 //! The words that the record does not tell of its images, as a text: a line for each image, in the record's order, with
-//! permissions, maximum size, lowest accepted version and version. What is behind `#`, and blank lines, are passed over:
+//! permissions, maximum size, lowest accepted version and version. What is behind `#` is passed over, as are blank
+//! lines:
 //!
 //! ```text
 //! # permissions  maximum size  lowest accepted version  version
