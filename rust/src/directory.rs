@@ -53,7 +53,7 @@ impl BitOr for Permissions {
 }
 
 /// What the record does not tell of an image, and the caller of [`write_directory`] does: four words, in the order in
-/// which an entry has them (I7).
+/// which an entry has them (I6).
 #[derive(Clone, Copy, PartialEq, Eq, Hash, Debug, Default)]
 #[repr(C)]
 pub struct ImageWords {
