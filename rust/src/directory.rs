@@ -165,7 +165,7 @@ impl<'a> Directory<'a> {
             return None;
         }
         let mut part = raw::Part { start: 0, length: 0 };
-        let mut numbers = raw::DirectoryNumbers {
+        let mut numbers = raw::DirectoryEntry {
             permissions: 0,
             maximum_size: 0,
             lowest_accepted_version: 0,

@@ -60,7 +60,7 @@ pub struct Directory {
 /// `struct meanderpeg_directory_entry`.
 #[derive(Clone, Copy, PartialEq, Eq, Debug)]
 #[repr(C)]
-pub struct DirectoryNumbers {
+pub struct DirectoryEntry {
     pub permissions: u32,
     pub maximum_size: u32,
     pub lowest_accepted_version: u32,
@@ -80,7 +80,7 @@ macro_rules! declare {
 }
 
 mod library {
-    use super::{Answer, Counts, Directory, DirectoryNumbers, Gathered, Part, Session};
+    use super::{Answer, Counts, Directory, DirectoryEntry, Gathered, Part, Session};
 
     declare! {
         pub fn meanderpeg_gather(
@@ -205,7 +205,7 @@ mod library {
             directory: *const u8,
             length: usize,
             k: usize,
-            numbers: *mut DirectoryNumbers,
+            numbers: *mut DirectoryEntry,
         ) -> u32;
     }
 }
@@ -316,6 +316,6 @@ pub fn directory_type_guid(directory: &[u8], k: usize, part: &mut Part) -> u32 {
     unsafe { library::meanderpeg_directory_type_guid(directory.as_ptr(), directory.len(), k, part) }
 }
 
-pub fn directory_numbers(directory: &[u8], k: usize, numbers: &mut DirectoryNumbers) -> u32 {
+pub fn directory_numbers(directory: &[u8], k: usize, numbers: &mut DirectoryEntry) -> u32 {
     unsafe { library::meanderpeg_directory_numbers(directory.as_ptr(), directory.len(), k, numbers) }
 }

@@ -210,7 +210,7 @@ fn directory_read() {
         assert_eq!((found, part.start as u64, part.length as u64), (number, place.0, place.1), "input {k}");
         let of = |five: [u32; 5]| {
             let [permissions, maximum_size, lowest_accepted_version, version, accepted] = five;
-            raw::DirectoryNumbers { permissions, maximum_size, lowest_accepted_version, version, accepted }
+            raw::DirectoryEntry { permissions, maximum_size, lowest_accepted_version, version, accepted }
         };
         let mut numbers = of([71, 72, 73, 74, 75]);
         let found = raw::directory_numbers(directory, entry, &mut numbers);

@@ -39,7 +39,7 @@ fn statements(code: &str) -> Vec<(String, String)> {
     found
 }
 
-/// `struct meanderpeg_directory_entry` is `DirectoryNumbers` in src/raw.rs.
+/// `struct meanderpeg_directory_entry` is `DirectoryEntry` in src/raw.rs.
 fn struct_name(c: &str) -> String {
     let words = c.trim_start_matches("meanderpeg_").split('_');
     words.map(|word| word[..1].to_uppercase() + &word[1..]).collect()
