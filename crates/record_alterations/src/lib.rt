@@ -2,6 +2,7 @@
 // told from the old record and the alteration.
 use fields::read32;
 use record_crc::ALL_ONES;
+use record_crc::crc_table;
 use record_crc::with_word;
 use record_layout::ACCEPTED_FROM;
 use record_layout::ACTIVE_AT;
@@ -95,10 +96,11 @@ pub fn new_crc(r: &[u8], banks: usize, x: Alteration) -> u32
     requires { ⌜ Alterable x (now r) banks ⌝ }
     ensures { λ q. ⌜ q ≡ crcOf (alteredBy x (now (r .entry))) ⌝ }
 {
+    let t = crc_table();
     let mut q: u32 = ALL_ONES;
     let mut o = VERSION_AT;
     while o < r.len() {
-        q = with_word(q, new_word(r, banks, x, o));
+        q = with_word(&t, q, new_word(r, banks, x, o));
         o += 4;
     }
     q ^ ALL_ONES

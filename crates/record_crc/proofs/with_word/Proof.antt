@@ -5,30 +5,6 @@ use Rattle.record_crc.specs.Crc.{withBytes}
 use Rattle.record_crc.proofs.with_word.Statement.{statement}
 use Rattle.record_crc.proofs.with_word.Tie as tie
 
-cast-with-byte : tie.Need-cast-with-byte
-cast-with-byte c = search needs
-
-with-byte-requires : tie.Need-with-byte-requires
-with-byte-requires c κs = search needs
-
-cast-with-byte-2 : tie.Need-cast-with-byte-2
-cast-with-byte-2 c = search needs
-
-with-byte-requires-2 : tie.Need-with-byte-requires-2
-with-byte-requires-2 c κs = search needs
-
-cast-with-byte-3 : tie.Need-cast-with-byte-3
-cast-with-byte-3 c = search needs
-
-with-byte-requires-3 : tie.Need-with-byte-requires-3
-with-byte-requires-3 c κs = search needs
-
-cast-with-byte-4 : tie.Need-cast-with-byte-4
-cast-with-byte-4 c = search needs
-
-with-byte-requires-4 : tie.Need-with-byte-requires-4
-with-byte-requires-4 c κs = search needs
-
 returns : tie.Need-returns
 unfolding withBytes bytes
 returns c = cc
@@ -36,13 +12,5 @@ returns c = cc
 pub with-word-spec : {M : Type 1} → statement M
 with-word-spec =
     tie.close
-    (tie.spec
-    cast-with-byte
-    with-byte-requires
-    cast-with-byte-2
-    with-byte-requires-2
-    cast-with-byte-3
-    with-byte-requires-3
-    cast-with-byte-4
-    with-byte-requires-4
-    returns)
+    (tie.spec (λ c. search needs) (λ c κs. search needs) (λ c. search needs) (λ c κs. search needs) (λ c. search needs)
+    (λ c κs. search needs) (λ c. search needs) (λ c κs. search needs) returns)
