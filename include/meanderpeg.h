@@ -129,8 +129,8 @@
 
 #define MEANDERPEG_VERSION_MAJOR 0
 #define MEANDERPEG_VERSION_MINOR 3
-#define MEANDERPEG_VERSION_PATCH 0
-#define MEANDERPEG_VERSION "0.3.0"
+#define MEANDERPEG_VERSION_PATCH 1
+#define MEANDERPEG_VERSION "0.3.1"
 
 /* ---- Whether the archive fits, and what this compiler knows ---- */
 

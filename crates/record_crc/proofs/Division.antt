@@ -1,5 +1,5 @@
--- Laws of the plain division: it is linear over exclusive or, and steps past zeros are a shift. From these two: of a
--- number, n steps divide the n lowest bits, and the others come down by n. Assumes nothing.
+-- Laws of the plain division: it is linear over exclusive or, and steps past zeros are a shift. From these two: n steps
+-- divide the n lowest bits of a number by themselves, and the others come down by n bits. Assumes nothing.
 use mathlib.Core.Path.{_≡_, refl, sym, ap, ap₂, _∙_}
 use Prim.Native.Nat.{ℕ, zero, suc, _*_, _/_, _%_, _^_, _<_}
 use native.Mathlib.Nat.{mod-lt, div-add-mod', mul-div-cancel, mul-mod-left, pow-suc, mul-assoc, mul-one, zero-mul, zero-lt-suc}
@@ -53,7 +53,8 @@ xor-swap a b c d =
 odd-times : (p x y : ℕ) → x < 2 → y < 2 → bitXor x y * p ≡ bitXor (x * p) (y * p)
 odd-times p x y hx hy =
     digit (λ (x : ℕ). bitXor x y * p ≡ bitXor (x * p) (y * p)) (rw zero-mul)
-    (digit (λ (y : ℕ). bitXor 1 y * p ≡ bitXor (1 * p) (y * p)) (rw (zero-mul, xor-zero-r (1 * p))) (rw (zero-mul, xor-self (1 * p))) y hy) x hx
+    (digit (λ (y : ℕ). bitXor 1 y * p ≡ bitXor (1 * p) (y * p)) (rw (zero-mul, xor-zero-r (1 * p)))
+    (rw (zero-mul, xor-self (1 * p))) y hy) x hx
 
 step-linear : (a b : ℕ) → divisionStep (bitXor a b) ≡ bitXor (divisionStep a) (divisionStep b)
 unfolding divisionStep
@@ -62,7 +63,7 @@ step-linear a b =
     (ap (λ (x : ℕ). x * 0xEDB88320) (xor-mod a b 1) ∙ odd-times 0xEDB88320 (a % 2) (b % 2) (odd a) (odd b))
     ∙ xor-swap (a / 2) (b / 2) (a % 2 * 0xEDB88320) (b % 2 * 0xEDB88320)
 
-pub steps-linear : (n a b : ℕ) → steps n (bitXor a b) ≡ bitXor (steps n a) (steps n b)
+steps-linear : (n a b : ℕ) → steps n (bitXor a b) ≡ bitXor (steps n a) (steps n b)
 unfolding steps
 steps-linear zero a b = refl
 steps-linear (suc n) a b = ap (steps n) (step-linear a b) ∙ steps-linear n (divisionStep a) (divisionStep b)
@@ -73,14 +74,14 @@ unfolding divisionStep
 step-shift x =
     ap₂ (λ (p q : ℕ). bitXor p (q * 0xEDB88320)) (mul-div-cancel x two-pos) (mul-mod-left x 2) ∙ xor-zero-r x
 
-pub steps-shift : (n x : ℕ) → steps n (x * 2 ^ n) ≡ x
+steps-shift : (n x : ℕ) → steps n (x * 2 ^ n) ≡ x
 unfolding steps
 steps-shift zero x = mul-one x
 steps-shift (suc n) x =
     ap (λ (p : ℕ). steps n (divisionStep p)) (ap (λ (p : ℕ). x * p) (pow-suc 2 n) ∙ sym (mul-assoc x (2 ^ n) 2))
     ∙ ap (steps n) (step-shift (x * 2 ^ n)) ∙ steps-shift n x
 
--- ---- the law of a lookup: n steps divide the n lowest bits by themselves, and the rest comes down by n bits
+-- ---- the law of n steps: they divide the n lowest bits by themselves, and the rest comes down by n bits
 pub steps-apart : (n y : ℕ) → steps n y ≡ bitXor (steps n (y % 2 ^ n)) (y / 2 ^ n)
 steps-apart n y =
     ap (steps n) (sym (xor-shifted (y / 2 ^ n) n (y % 2 ^ n) (mod-lt y (pow-pos n)) ∙ div-add-mod' y (2 ^ n)))

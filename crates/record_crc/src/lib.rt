@@ -1,4 +1,4 @@
-// CRC-32 (R4), by a table of 256 numbers: one lookup a byte, for eight steps of the division.
+// CRC-32 (R4), by a table of 256 numbers (R29): one lookup a byte, for eight steps of the division.
 ghost use mathlib.Core.Path.{_≡_};
 ghost use Rattle.fields.specs.Number.{bytes};
 ghost use Rattle.record_crc.specs.Crc.{withByte, withBytes, crc32Of};
@@ -19,7 +19,8 @@ pub fn crc_table() -> [u32; 256]
     TABLE
 }
 
-// The register after one byte more: its lowest byte is looked up, and the others come down by one.
+// The register after one byte more: the entry at the lowest byte of both, exclusive-ored with the other three, which
+// come down by one.
 fn with_byte(t: &[u32; 256], r: u32, b: u8) -> u32
     requires { ⌜ TableRight (now t) ⌝ }
     ensures { λ q. ⌜ q ≡ withByte r b ⌝ }

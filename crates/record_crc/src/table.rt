@@ -1,4 +1,4 @@
-// The table of CRC-32 (R4): at each byte, what eight steps of the division make of it. That each entry is so is shown of
+// The table of CRC-32 (R29): for each byte, what eight steps of the division make of it. That this is so is shown of
 // `crc_table`, which alone names the constant.
 pub const TABLE: [u32; 256] = [
     0x00000000,
