@@ -12,7 +12,7 @@ use crate::report::{report, report_in, REPORT_BYTES};
 
 /// The entries, by name, in the order in which they are reported. The last has no place in the comparison with
 /// crates/test_random, which asks for soundness instead: the product's interface tells no failing rule's number.
-pub const ENTRIES: [&str; 15] = [
+pub const ENTRIES: [&str; 16] = [
     "gather",
     "capsule",
     "start_up",
@@ -27,6 +27,7 @@ pub const ENTRIES: [&str; 15] = [
     "soundness",
     "directory_write",
     "directory_read",
+    "crc",
     "rules",
 ];
 
@@ -34,6 +35,7 @@ pub const ENTRIES: [&str; 15] = [
 pub fn thousands(entry: &str) -> u64 {
     match entry {
         "gather" | "capsule" => 40,
+        "crc" => 4,
         "rules" => 0,
         _ => 12,
     }
@@ -123,6 +125,7 @@ pub fn outcomes(entry: &str) -> Vec<String> {
                 "accepted, correct_boot 1, entry past the count",
             ],
         ),
+        "crc" => (&[], &["no byte", "1 to 4 bytes", "5 to 249 bytes", "250 bytes or more"]),
         _ => (&[], &[]),
     };
     let mut all: Vec<String> = refusals.iter().map(|number| format!("refusal {number}")).collect();
@@ -160,6 +163,7 @@ pub fn answer(entry: &str, seed: u64, k: u64, account: &mut Account) -> String {
         "soundness" => answer_soundness(seed, k, account),
         "directory_write" => answer_directory_write(seed, k, account),
         "directory_read" => answer_directory_read(seed, k, account),
+        "crc" => answer_crc(seed, k, account),
         "rules" => answer_rules(seed, k, account),
         _ => {
             let place = ENTRIES.iter().position(|&e| e == entry).expect("an entry's name");
@@ -445,6 +449,21 @@ fn answer_directory_read(seed: u64, k: u64, account: &mut Account) -> String {
         input.directory.len(),
         input.entry
     )
+}
+
+fn answer_crc(seed: u64, k: u64, account: &mut Account) -> String {
+    let bytes = crc_input(seed, k);
+    let crc = record::crc32(&bytes);
+    account.inputs.bytes(&bytes);
+    account.answers.word(crc);
+    let outcome = match bytes.len() {
+        0 => "no byte",
+        1..=4 => "1 to 4 bytes",
+        5..=249 => "5 to 249 bytes",
+        _ => "250 bytes or more",
+    };
+    account.tally.add(outcome);
+    format!("{} bytes: {crc:08x}", bytes.len())
 }
 
 /// The first failing rule of both copies of the area that input k of repair holds; 99 where it isn't 16,384 bytes.

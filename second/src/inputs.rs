@@ -1220,3 +1220,20 @@ fn spoil_several(c: &mut [u8], plan: &DirectoryPlan, e: usize, mut length: usize
     }
     length
 }
+
+// Group 13: the CRC.
+
+pub fn crc_input(seed: u64, k: u64) -> Vec<u8> {
+    let mut d = Draw::start(13, seed, k);
+    let tint = d.below(256) as usize;
+    let u = d.below(64) as usize;
+    let n = [u % 5, 5 + u, 250 + u, 4_132 - u][k as usize % 4];
+    let mut bytes: Vec<u8> = (0..n).map(|i| filler(i, tint)).collect();
+    if n > 0 {
+        for _ in 0..16 {
+            let at = d.word() as usize % n;
+            bytes[at] = d.below(256) as u8;
+        }
+    }
+    bytes
+}

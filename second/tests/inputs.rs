@@ -291,7 +291,7 @@ fn the_place_is_the_lowest() {
 /// The digests after 1,000 inputs of seed 1. They move only with a recipe or with a rule.
 #[test]
 fn digests_as_they_stand() {
-    let stand: [(&str, u64, u64); 15] = [
+    let stand: [(&str, u64, u64); 16] = [
         ("gather", 0x2dac9d04, 0xd57fdcb2),
         ("capsule", 0x70f6ca52, 0xd3e7b734),
         ("start_up", 0x95a0993a, 0xeb2d5c2b),
@@ -306,6 +306,7 @@ fn digests_as_they_stand() {
         ("soundness", 0x31a34d57, 0x2afe5ca3),
         ("directory_write", 0xbcd8b569, 0x927fcca1),
         ("directory_read", 0xca18159e, 0x963921a1),
+        ("crc", 0x881a35cd, 0x8f2bcfbf),
         ("rules", 0x31a34d57, 0x0eb5fde7),
     ];
     for (entry, inputs, answers) in stand {

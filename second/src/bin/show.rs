@@ -22,6 +22,7 @@ fn main() {
         "soundness" | "rules" => call_input(1, seed, k).area,
         "directory_write" => directory_write_input(seed, k).area,
         "directory_read" => directory_read_input(seed, k).directory,
+        "crc" => crc_input(seed, k),
         name => {
             let place = ENTRIES.iter().position(|&e| e == name).expect("an entry's name");
             call_input(place as u64 - 2, seed, k).area
