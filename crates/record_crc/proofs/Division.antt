@@ -1,6 +1,6 @@
 -- Laws of the plain division: it is linear over exclusive or, and steps past zeros are a shift. From these two: n steps
 -- divide the n lowest bits of a number by themselves, and the others come down by n bits. Assumes nothing.
-use mathlib.Core.Path.{_≡_, refl, sym, ap, ap₂, _∙_}
+use mathlib.Core.Path.{_≡_, refl, sym, ap, _∙_}
 use Prim.Native.Nat.{ℕ, zero, suc, _*_, _/_, _%_, _^_, _<_}
 use native.Mathlib.Nat.{mod-lt, div-add-mod', mul-div-cancel, mul-mod-left, pow-suc, mul-assoc, mul-one, zero-mul, zero-lt-suc}
 use native.Mathlib.Omega.{arith}
@@ -59,9 +59,9 @@ odd-times p x y hx hy =
 step-linear : (a b : ℕ) → divisionStep (bitXor a b) ≡ bitXor (divisionStep a) (divisionStep b)
 unfolding divisionStep
 step-linear a b =
-    ap₂ bitXor (xor-shr a b 1)
-    (ap (λ (x : ℕ). x * 0xEDB88320) (xor-mod a b 1) ∙ odd-times 0xEDB88320 (a % 2) (b % 2) (odd a) (odd b))
-    ∙ xor-swap (a / 2) (b / 2) (a % 2 * 0xEDB88320) (b % 2 * 0xEDB88320)
+    let ha : a % 2 < 2 = odd a in
+    let hb : b % 2 < 2 = odd b in
+    rw (xor-shr a b 1, xor-mod a b 1, odd-times, xor-swap (a / 2) (b / 2))
 
 steps-linear : (n a b : ℕ) → steps n (bitXor a b) ≡ bitXor (steps n a) (steps n b)
 unfolding steps
@@ -71,8 +71,7 @@ steps-linear (suc n) a b = ap (steps n) (step-linear a b) ∙ steps-linear n (di
 -- ---- n steps past n zeros are a shift
 step-shift : (x : ℕ) → divisionStep (x * 2) ≡ x
 unfolding divisionStep
-step-shift x =
-    ap₂ (λ (p q : ℕ). bitXor p (q * 0xEDB88320)) (mul-div-cancel x two-pos) (mul-mod-left x 2) ∙ xor-zero-r x
+step-shift x = rw (mul-div-cancel x two-pos, mul-mod-left x 2, xor-zero-r x)
 
 steps-shift : (n x : ℕ) → steps n (x * 2 ^ n) ≡ x
 unfolding steps
