@@ -4,7 +4,8 @@ use mathlib.Core.Path.{_≡_, sym, ap, _∙_}
 use mathlib.Core.Bool.{Bool, true, _&&_}
 use mathlib.Core.List.{List, [], _∷_}
 use Prim.Native.Nat.{ℕ, zero, suc, _+_, _/_, _%_, _<_}
-use native.Mathlib.Nat.{zero-add, add-zero, add-suc, suc-add, le-of-suc-le-suc, not-suc-le-zero, mod-lt, zero-lt-suc}
+use native.Mathlib.Nat.{zero-add, add-zero, add-suc, suc-add, le-of-suc-le-suc, not-suc-le-zero}
+use native.Mathlib.Omega.{arith}
 use borrow.Author.Tests.{eqb-true}
 use lib.Bits.{bitXor}
 use lib.Dec.{eqb}
@@ -29,11 +30,11 @@ tested (x ∷ xs) i e (suc k) h =
 
 -- the law that turns the test into the rule
 pub table-right : (t : List ℕ) → length t ≡ 256 → entriesRight 0 t ≡ true → TableRight t
-table-right t sized e = record { at = λ b h. tested t 0 e b (rw sized h) ∙ ap (steps 8) (zero-add b) }
+table-right t sized e = record { at = λ b h. tested t 0 e b (omega arith) ∙ ap (steps 8) (zero-add b) }
 
 -- one lookup is eight steps
 pub lookup : (t : List ℕ) → TableRight t → (r b : ℕ) → withByte r b ≡ bitXor (getD t (bitXor r b % 256) 0) (bitXor r b / 256)
 unfolding withByte
 lookup t right r b =
     steps-apart 8 (bitXor r b)
-    ∙ ap (λ (x : ℕ). bitXor x (bitXor r b / 256)) (sym (right .at (bitXor r b % 256) (mod-lt (bitXor r b) (zero-lt-suc 255))))
+    ∙ ap (λ (x : ℕ). bitXor x (bitXor r b / 256)) (sym (right .at (bitXor r b % 256) (omega arith)))

@@ -16,7 +16,7 @@ withBytes-append r (x ∷ xs) ys = withBytes-append (withByte r x) xs ys
 -- ---- a CRC-32 has 32 bits
 step-low : (r : ℕ) → r < 2 ^ 32 → divisionStep r < 2 ^ 32
 unfolding divisionStep
-step-low r h = xor-lt 32 (r / 2) (r % 2 * 0xEDB88320) (omega arith) (omega arith)
+step-low r h = xor-lt 32 (r / 2) _ (omega arith) (omega arith)
 
 steps-low : (n r : ℕ) → r < 2 ^ 32 → steps n r < 2 ^ 32
 unfolding steps
