@@ -117,13 +117,18 @@ static const struct {
 } calls[] = {{"meanderpeg_start_up", start_up}, {"meanderpeg_repair", repair}, {"meanderpeg_cancel", cancel},
              {"meanderpeg_begin", begin}, {"meanderpeg_accept", accept}};
 
-/* Every length up to 600 and the record's, from eight places: 1 where an answer is not the plain division's. */
-static int compare(void) {
+/* Any bytes. */
+static void fill_area(void) {
     uint32_t seed = 12345;
     for (size_t i = 0; i < sizeof area; i++) {
         seed = seed * 1103515245 + 12345;
         area[i] = (uint8_t)(seed >> 16);
     }
+}
+
+/* Every length up to 600 and the record's, from eight places: 1 where an answer is not the plain division's. */
+static int compare(void) {
+    fill_area();
     for (size_t k = 0; k < sizeof crcs / sizeof *crcs; k++)
         for (size_t from = 0; from < 8; from++)
             for (size_t length = 0; length <= 601; length++) {
@@ -145,7 +150,7 @@ static int compare(void) {
 int main(int count, char **arguments) {
     make_table();
     if (count == 1) return compare();
-    make_area(1);
+    fill_area();
     for (size_t k = 0; k < sizeof crcs / sizeof *crcs; k++)
         if (!strcmp(arguments[1], crcs[k].name)) return crcs[k].crc(area + 4, COVERED) == 0;
     for (size_t k = 0; k < sizeof calls / sizeof *calls; k++)
