@@ -2,7 +2,7 @@
 //! entry's name, the seed, k.
 
 use second::answers::{answer, Account, ENTRIES};
-use second::inputs::{call_input, capsule_input, directory_read_input, directory_write_input, gather_input};
+use second::inputs::{call_input, capsule_input, crc_input, directory_read_input, directory_write_input, gather_input};
 
 fn main() {
     let arguments: Vec<String> = std::env::args().skip(1).collect();
