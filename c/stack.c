@@ -11,21 +11,16 @@
 #else /* on the emulated Arm board: board/run */
 #include "../board/machine.h"
 #endif
+#include "largest.h"
 
-enum { BANKS = 4, IMAGES = 32, COPY = 8192, ENTRY = 32 + 24 * BANKS, RECORD = 40 + IMAGES * ENTRY };
 enum { BASE = 0x1000, WINDOW = 16384, ITEMS = 64, CAPSULE = 28 + 8 + 8 * ITEMS + 48 * ITEMS };
 
-static uint8_t window[WINDOW], capsule[CAPSULE], area[MEANDERPEG_AREA_BYTES], text[MEANDERPEG_REPORT_BYTES];
-static uint32_t stores[MEANDERPEG_STORE_NUMBERS];
+static uint8_t window[WINDOW], capsule[CAPSULE], text[MEANDERPEG_REPORT_BYTES];
 static uint8_t guid[MEANDERPEG_GUID_BYTES];
 static uint32_t words[IMAGES * MEANDERPEG_DIRECTORY_IMAGE_WORDS];
 static uint8_t directory[MEANDERPEG_DIRECTORY_BYTES];
 static struct meanderpeg_session session;
 static size_t item, blocks, entry;
-
-static void put(uint8_t *at, uint64_t value, int bytes) {
-    for (int i = 0; i < bytes; i++) at[i] = (uint8_t)(value >> (8 * i));
-}
 
 static void make_window(void) {
     memset(window, 7, sizeof window);
@@ -63,41 +58,6 @@ static void make_capsule(void) {
         put(body + at + 24, 5, 4);
         put(body + at + 28, 3, 4);
     }
-}
-
-static uint32_t crc32(const uint8_t *bytes, size_t length) {
-    uint32_t crc = 0xffffffff;
-    for (size_t i = 0; i < length; i++) {
-        crc ^= bytes[i];
-        for (int bit = 0; bit < 8; bit++) crc = crc >> 1 ^ (crc & 1 ? 0xedb88320 : 0);
-    }
-    return ~crc;
-}
-
-/* All accepted, or image 31 of bank 0 not, in both copies; active is bank 0. */
-static void make_area(uint32_t last_accepted) {
-    memset(area, 0, sizeof area);
-    put(area + 4, 2, 4);
-    put(area + 12, 1, 4);
-    put(area + 16, RECORD, 4);
-    put(area + 20, 32, 2);
-    put(area + 24, last_accepted ? 0xfcfcfcfc : 0xfcfcfcfe, 4);
-    area[32] = BANKS;
-    put(area + 34, IMAGES, 2);
-    put(area + 36, ENTRY, 2);
-    put(area + 38, 24, 2);
-    for (size_t i = 0; i < IMAGES; i++) {
-        uint8_t *entry = area + 40 + i * ENTRY;
-        entry[15] = (uint8_t)(i + 1);
-        for (size_t bank = 0; bank < BANKS; bank++) put(entry + 32 + 24 * bank + 16, 1, 4);
-    }
-    put(area + 40 + (IMAGES - 1) * ENTRY + 32 + 16, last_accepted, 4);
-    put(area, crc32(area + 4, RECORD - 4), 4);
-    memcpy(area + COPY, area, RECORD);
-}
-
-static void do_stores(size_t pairs) {
-    for (size_t i = 0; i < pairs; i++) put(area + stores[2 * i], stores[2 * i + 1], 4);
 }
 
 /* ---- One call each; what it answers shows whether the input led where it should ---- */
@@ -266,7 +226,7 @@ static void changed(const char *name, void (*call)(void), uint32_t without_pair)
         area[COPY * copy + 60] ^= 1;
     }
     area[COPY + 60] ^= 1;
-    put(area + COPY, crc32(area + COPY + 4, RECORD - 4), 4);
+    put(area + COPY, plain_crc(area + COPY + 4, RECORD - 4), 4);
     show(name, larger(most, called(call, without_pair)));
     memcpy(area + COPY, area, RECORD);
 }

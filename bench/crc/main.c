@@ -6,24 +6,19 @@
 #include <string.h>
 #include <zlib.h>
 
-enum { BANKS = 4, IMAGES = 32, ENTRY = 32 + 24 * BANKS, RECORD = 40 + IMAGES * ENTRY, COPY = 8192, COVERED = RECORD - 4 };
+#include "../../c/largest.h"
+
+enum { COVERED = RECORD - 4 };
 
 /* crates/record_crc, exported by `run` */
 uint32_t crc_of(const uint8_t *bytes, size_t length);
 
-static uint8_t area[MEANDERPEG_AREA_BYTES];
-static uint32_t stores[MEANDERPEG_STORE_NUMBERS];
 static uint32_t table[256];
 
 /* ---- Others ---- */
 
 __attribute__((noinline)) uint32_t plain_division(const uint8_t *bytes, size_t length) {
-    uint32_t crc = 0xffffffff;
-    for (size_t i = 0; i < length; i++) {
-        crc ^= bytes[i];
-        for (int bit = 0; bit < 8; bit++) crc = crc >> 1 ^ (crc & 1 ? 0xedb88320 : 0);
-    }
-    return ~crc;
+    return plain_crc(bytes, length);
 }
 
 static void make_table(void) {
@@ -44,34 +39,6 @@ __attribute__((noinline)) uint32_t by_zlib(const uint8_t *bytes, size_t length) 
     return (uint32_t)crc32(0, bytes, (uInt)length);
 }
 
-/* ---- The area ---- */
-
-static void put(uint8_t *at, uint32_t value, int bytes) {
-    for (int i = 0; i < bytes; i++) at[i] = (uint8_t)(value >> 8 * i);
-}
-
-/* Bank 0 is active; image 31 is not accepted there, or all are. Type GUIDs differ in their last byte alone. */
-static void make_area(uint32_t last_accepted) {
-    memset(area, 0, sizeof area);
-    put(area + 4, 2, 4);
-    put(area + 12, 1, 4);
-    put(area + 16, RECORD, 4);
-    put(area + 20, 32, 2);
-    put(area + 24, last_accepted ? 0xfcfcfcfc : 0xfcfcfcfe, 4);
-    area[32] = BANKS;
-    put(area + 34, IMAGES, 2);
-    put(area + 36, ENTRY, 2);
-    put(area + 38, 24, 2);
-    for (size_t i = 0; i < IMAGES; i++) {
-        uint8_t *entry = area + 40 + i * ENTRY;
-        entry[15] = (uint8_t)(i + 1);
-        for (size_t bank = 0; bank < BANKS; bank++) put(entry + 32 + 24 * bank + 16, 1, 4);
-    }
-    put(area + 40 + (IMAGES - 1) * ENTRY + 32 + 16, last_accepted, 4);
-    put(area, plain_division(area + 4, COVERED), 4);
-    memcpy(area + COPY, area, RECORD);
-}
-
 /* ---- What is counted ---- */
 
 static struct meanderpeg_answer begun(void) {
@@ -84,7 +51,7 @@ static uint32_t begin(void) { return begun().refusal; }
 
 static uint32_t cancel(void) {
     struct meanderpeg_answer answer = begun();
-    for (size_t i = 0; i < answer.pairs; i++) put(area + stores[2 * i], stores[2 * i + 1], 4);
+    do_stores(answer.pairs);
     return meanderpeg_cancel(answer.session, area, sizeof area, stores, MEANDERPEG_STORE_NUMBERS).refusal;
 }
 
