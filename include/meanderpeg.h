@@ -128,9 +128,9 @@
 #include <stdint.h>
 
 #define MEANDERPEG_VERSION_MAJOR 0
-#define MEANDERPEG_VERSION_MINOR 3
-#define MEANDERPEG_VERSION_PATCH 1
-#define MEANDERPEG_VERSION "0.3.1"
+#define MEANDERPEG_VERSION_MINOR 4
+#define MEANDERPEG_VERSION_PATCH 0
+#define MEANDERPEG_VERSION "0.4.0"
 
 /* ---- Whether the archive fits, and what this compiler knows ---- */
 

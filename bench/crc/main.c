@@ -1,4 +1,4 @@
-/* The CRC (R4) and the functions that work it, on the largest record, 4 banks and 32 images: answers compared with the
+/* The CRC (R4) and the functions that work it, on the largest record, 4 banks and 32 images: each CRC compared with the
  * plain division, and one call of each to count instructions of. See `run`. */
 #include "meanderpeg.h"
 
@@ -41,48 +41,48 @@ __attribute__((noinline)) uint32_t by_zlib(const uint8_t *bytes, size_t length) 
 
 /* ---- What is counted ---- */
 
-static struct meanderpeg_answer begun(void) {
+static struct meanderpeg_answer begin(void) {
     struct meanderpeg_session regular = {MEANDERPEG_REGULAR, 0, 0};
     make_area(1);
     return meanderpeg_begin(regular, area, sizeof area, stores, MEANDERPEG_STORE_NUMBERS);
 }
 
-static uint32_t begin(void) { return begun().refusal; }
-
-static uint32_t cancel(void) {
-    struct meanderpeg_answer answer = begun();
+static struct meanderpeg_answer cancel(void) {
+    struct meanderpeg_answer answer = begin();
     do_stores(answer.pairs);
-    return meanderpeg_cancel(answer.session, area, sizeof area, stores, MEANDERPEG_STORE_NUMBERS).refusal;
+    return meanderpeg_cancel(answer.session, area, sizeof area, stores, MEANDERPEG_STORE_NUMBERS);
 }
 
-static uint32_t accept(void) {
+static struct meanderpeg_answer accept(void) {
     struct meanderpeg_session trial = {MEANDERPEG_TRIAL, 0, 0};
     uint8_t guid[MEANDERPEG_GUID_BYTES] = {0};
     make_area(0);
     guid[15] = IMAGES;
-    return meanderpeg_accept(trial, area, sizeof area, guid, stores, MEANDERPEG_STORE_NUMBERS).refusal;
+    return meanderpeg_accept(trial, area, sizeof area, guid, stores, MEANDERPEG_STORE_NUMBERS);
 }
 
-static uint32_t start_up(void) {
+static struct meanderpeg_answer start_up(void) {
     make_area(1);
-    return meanderpeg_start_up(area, sizeof area, 0).refusal;
+    return meanderpeg_start_up(area, sizeof area, 0);
 }
 
-static uint32_t repair(void) {
+static struct meanderpeg_answer repair(void) {
     make_area(1);
-    return meanderpeg_repair(area, sizeof area, stores, MEANDERPEG_STORE_NUMBERS).refusal;
+    return meanderpeg_repair(area, sizeof area, stores, MEANDERPEG_STORE_NUMBERS);
 }
 
 static const struct {
     const char *name;
     uint32_t (*crc)(const uint8_t *, size_t);
-} crcs[] = {{"crc_of", crc_of}, {"plain_division", plain_division}, {"plain_table", plain_table}, {"by_zlib", by_zlib}};
+} crcs[] = {{"plain_division", plain_division}, {"crc_of", crc_of}, {"plain_table", plain_table}, {"by_zlib", by_zlib}};
 
 static const struct {
     const char *name;
-    uint32_t (*call)(void);
+    struct meanderpeg_answer (*call)(void);
 } calls[] = {{"meanderpeg_start_up", start_up}, {"meanderpeg_repair", repair}, {"meanderpeg_cancel", cancel},
              {"meanderpeg_begin", begin}, {"meanderpeg_accept", accept}};
+
+enum { CRCS = sizeof crcs / sizeof *crcs, CALLS = sizeof calls / sizeof *calls };
 
 /* Any bytes. */
 static void fill_area(void) {
@@ -93,34 +93,42 @@ static void fill_area(void) {
     }
 }
 
-/* Every length up to 600 and the record's, from eight places: 1 where an answer is not the plain division's. */
-static int compare(void) {
+/* Whether each CRC is the plain division's: every length up to 600 and the record's, from eight places. */
+static int crcs_agree(void) {
     fill_area();
-    for (size_t k = 0; k < sizeof crcs / sizeof *crcs; k++)
+    for (size_t k = 1; k < CRCS; k++)
         for (size_t from = 0; from < 8; from++)
             for (size_t length = 0; length <= 601; length++) {
                 size_t n = length <= 600 ? length : COVERED;
-                if (crcs[k].crc(area + from, n) != plain_division(area + from, n)) {
-                    printf("%s differs, %zu bytes from %zu\n", crcs[k].name, n, from);
-                    return 1;
-                }
+                if (crcs[k].crc(area + from, n) == plain_division(area + from, n)) continue;
+                printf("%s differs, %zu bytes from %zu\n", crcs[k].name, n, from);
+                return 0;
             }
-    for (size_t k = 0; k < sizeof calls / sizeof *calls; k++)
-        if (calls[k].call() != MEANDERPEG_OK) {
-            printf("%s refuses\n", calls[k].name);
-            return 1;
-        }
-    return 0;
+    return 1;
+}
+
+/* Whether each call is accepted, and the record has its CRC once the stores are done. */
+static int calls_agree(void) {
+    for (size_t k = 0; k < CALLS; k++) {
+        struct meanderpeg_answer answer = calls[k].call();
+        uint8_t crc[4];
+        do_stores(answer.pairs);
+        put(crc, plain_crc(area + 4, COVERED), 4);
+        if (answer.refusal == MEANDERPEG_OK && !memcmp(area, crc, 4) && !memcmp(area, area + COPY, RECORD)) continue;
+        printf("%s: refusal %u, or a wrong record\n", calls[k].name, (unsigned)answer.refusal);
+        return 0;
+    }
+    return 1;
 }
 
 /* With no argument the comparison; else one call of the function of that name. */
 int main(int count, char **arguments) {
     make_table();
-    if (count == 1) return compare();
+    if (count == 1) return !(crcs_agree() && calls_agree());
     fill_area();
-    for (size_t k = 0; k < sizeof crcs / sizeof *crcs; k++)
+    for (size_t k = 0; k < CRCS; k++)
         if (!strcmp(arguments[1], crcs[k].name)) return crcs[k].crc(area + 4, COVERED) == 0;
-    for (size_t k = 0; k < sizeof calls / sizeof *calls; k++)
-        if (!strcmp(arguments[1], calls[k].name)) return calls[k].call() != MEANDERPEG_OK;
+    for (size_t k = 0; k < CALLS; k++)
+        if (!strcmp(arguments[1], calls[k].name)) return calls[k].call().refusal != MEANDERPEG_OK;
     return 2;
 }

@@ -19,8 +19,8 @@ pub fn crc_table() -> [u32; 256]
     TABLE
 }
 
-// The register after one byte more: the entry at the lowest byte of both, exclusive-ored with the other three, which
-// come down by one.
+// The register after one byte more: the entry at the lowest byte of r ^ b, exclusive-ored with the three higher bytes,
+// shifted down by one byte.
 fn with_byte(t: &[u32; 256], r: u32, b: u8) -> u32
     requires { ⌜ TableRight (now t) ⌝ }
     ensures { λ q. ⌜ q ≡ withByte r b ⌝ }
