@@ -2,7 +2,7 @@
 // those of crate `c_begin` do, an array of 16 bytes as a pointer.
 // Parted from its neighbours for the prover: each must-fail edit proves its whole crate again.
 ghost use Rattle.std.specs.Prelude.{◌≡◌};
-ghost use Rattle.update_changes.specs.Changed.{accept, selectPrevious};
+ghost use Rattle.update_changes.specs.Changed.{accept, select_previous};
 ghost use Rattle.c_answer.specs.Answers.{exported};
 
 use c_answer::{AnswerNumbers, answer_in_numbers};
@@ -30,7 +30,7 @@ pub extern "C" fn meanderpeg_select_previous(
     area: &[u8],
     out: &mut [u32],
 ) -> AnswerNumbers
-    ensures { (result, out.new) ≡ exported selectPrevious session area.now out.old }
+    ensures { (result, out.new) ≡ exported select_previous session area.now out.old }
 {
     let named = session_named(session);
     let answer = named.select_previous(area, out);

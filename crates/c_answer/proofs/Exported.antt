@@ -8,10 +8,10 @@ use Rattle.update_session.specs.declared.Session.{Session}
 use Rattle.update_session.specs.Outcome.{Outcome}
 use Rattle.update_session.specs.Calls.{answered}
 use Rattle.c_session.specs.declared.SessionNumbers.{SessionNumbers}
-use Rattle.c_session.specs.Numbers.{sessionNamed}
+use Rattle.c_session.specs.Numbers.{session_named}
 use Rattle.c_answer.specs.declared.AnswerNumbers.{AnswerNumbers}
-use Rattle.c_answer.specs.Answers.{exportedOutcome, exported}
+use Rattle.c_answer.specs.Answers.{exported_outcome, exported}
 
-pub exported-call : (k : Call) (given : SessionNumbers) (a s : List ℕ) {q : Session} {o : Outcome} {s2 : List ℕ} {r : AnswerNumbers}
-    → q ≡ sessionNamed given → (o, s2) ≡ answered k q a s → r ≡ exportedOutcome given o → (r, s2) ≡ exported k given a s
-exported-call k given a s named outcome numbers = rw (← named, ← outcome, numbers)
+pub exported_call : (k : Call) (given : SessionNumbers) (a s : List ℕ) {q : Session} {o : Outcome} {s2 : List ℕ} {r : AnswerNumbers}
+    → q ≡ session_named given → (o, s2) ≡ answered k q a s → r ≡ exported_outcome given o → (r, s2) ≡ exported k given a s
+exported_call k given a s named outcome numbers = rw (← named, ← outcome, numbers)

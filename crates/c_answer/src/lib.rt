@@ -1,8 +1,8 @@
 // An answer as C has it (X3; include/meanderpeg.h): one struct, by value, for start-up, repair and the six calls.
 ghost use Rattle.std.specs.Prelude.{◌≡◌};
 ghost use Rattle.refusals.specs.Number.{number_of, values_of};
-ghost use Rattle.update_session.specs.Outcome.{outcomeOf};
-ghost use Rattle.c_answer.specs.Answers.{slots, passedNumbers, refusedNumbers, exportedOutcome};
+ghost use Rattle.update_session.specs.Outcome.{outcome_of};
+ghost use Rattle.c_answer.specs.Answers.{slots, passed_numbers, refused_numbers, exported_outcome};
 
 use c_session::{SessionNumbers, numbers_of};
 use refusal_order::Verdict;
@@ -32,7 +32,7 @@ fn told_by(why: Refusal) -> [u32; 2]
 
 // Passed, with the next session and a list of that many pairs.
 pub fn passed(next: SessionNumbers, pairs: usize) -> AnswerNumbers
-    ensures { result ≡ passedNumbers next pairs }
+    ensures { result ≡ passed_numbers next pairs }
 {
     AnswerNumbers {
         refusal: 0,
@@ -44,7 +44,7 @@ pub fn passed(next: SessionNumbers, pairs: usize) -> AnswerNumbers
 
 // Refused: the session as it was given, also where its numbers name none (X2), no list.
 pub fn refused(given: SessionNumbers, why: Refusal) -> AnswerNumbers
-    ensures { result ≡ refusedNumbers given (number_of why) (values_of why) }
+    ensures { result ≡ refused_numbers given (number_of why) (values_of why) }
 {
     let told = told_by(why);
     AnswerNumbers {
@@ -57,7 +57,7 @@ pub fn refused(given: SessionNumbers, why: Refusal) -> AnswerNumbers
 
 // The answer of a call that was given that session.
 pub fn answer_in_numbers(given: SessionNumbers, answer: Answer) -> AnswerNumbers
-    ensures { result ≡ exportedOutcome given (outcomeOf answer) }
+    ensures { result ≡ exported_outcome given (outcome_of answer) }
 {
     let session = answer.session;
     let next = numbers_of(session);

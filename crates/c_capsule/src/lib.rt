@@ -2,8 +2,8 @@
 // length, an array behind a reference as a pointer.
 ghost use Rattle.std.specs.Prelude.{◌≡◌, [], ◌∷◌};
 ghost use Rattle.capsule_check.specs.Verdict.{verdict};
-ghost use Rattle.capsule_counts.specs.Count.{driverCount, payloadCount};
-ghost use Rattle.c_reply.specs.Replied.{repliedBy};
+ghost use Rattle.capsule_counts.specs.Count.{driver_count, payload_count};
+ghost use Rattle.c_reply.specs.Replied.{replied_by};
 
 use refusal_order::Verdict;
 
@@ -12,8 +12,8 @@ use refusal_order::Verdict;
 // The clause asks the verdict twice: in `repliedBy`, and in what it gives, whose branch for a refusal is dead there.
 #[unsafe(no_mangle)]
 pub extern "C" fn meanderpeg_capsule_check(s: &[u8], counts: &mut [usize; 2]) -> u32
-    ensures { (result, counts.new) ≡ repliedBy (verdict s.now)
-        (driverCount s.now ∷ payloadCount s.now ∷ []) counts.old }
+    ensures { (result, counts.new) ≡ replied_by (verdict s.now)
+        (driver_count s.now ∷ payload_count s.now ∷ []) counts.old }
 {
     let found = capsule_counts::counts_of(s);
     let checked = found.verdict;

@@ -2,7 +2,7 @@
 // slice passes as a pointer and a length, an array behind a reference as a pointer.
 ghost use Rattle.std.specs.Prelude.{◌≡◌, [], ◌∷◌};
 ghost use Rattle.refusal_order.specs.Decide.{decide, reply};
-ghost use Rattle.directory_reader.specs.Reader.{readerTests, shownImages, shownCorrectBoot};
+ghost use Rattle.directory_reader.specs.Reader.{reader_tests, shown_images, shown_correct_boot};
 ghost use Rattle.c_reply.specs.Replied.{replied};
 
 use directory_layout::{CORRECT_BOOT_AT, IMAGES_AT};
@@ -15,8 +15,8 @@ use refusal_order::Verdict;
 // in what is shown, whose branch for a refusal is dead there.
 #[unsafe(no_mangle)]
 pub extern "C" fn meanderpeg_directory_check(d: &[u8], shown: &mut [u32; 2]) -> u32
-    ensures { (result, shown.new) ≡ replied (reply (decide (readerTests d.now))
-        (shownImages d.now ∷ shownCorrectBoot d.now ∷ [])) shown.old }
+    ensures { (result, shown.new) ≡ replied (reply (decide (reader_tests d.now))
+        (shown_images d.now ∷ shown_correct_boot d.now ∷ [])) shown.old }
 {
     let verdict = refusal(d);
     match verdict {

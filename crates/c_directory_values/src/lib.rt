@@ -4,11 +4,11 @@
 // (I10); or returns the refusal, N43 to N46, and sets nothing (X5).
 // The clauses ask the tests twice: in `reply`, and in what is shown, whose branch for a refusal is dead there.
 ghost use Rattle.std.specs.Prelude.{◌≡◌};
-ghost use Rattle.fields.specs.Part.{startAndLength};
+ghost use Rattle.fields.specs.Part.{start_and_length};
 ghost use Rattle.refusal_order.specs.Decide.{decide, reply};
 ghost use Rattle.directory_layout.specs.Layout.{five};
-ghost use Rattle.directory_reader.specs.Reader.{readerTests};
-ghost use Rattle.directory_values.specs.Values.{shownGuid, shownNumbers};
+ghost use Rattle.directory_reader.specs.Reader.{reader_tests};
+ghost use Rattle.directory_values.specs.Values.{shown_guid, shown_numbers};
 ghost use Rattle.c_reply.specs.Replied.{replied};
 
 use directory_reader::refusal;
@@ -19,8 +19,8 @@ use refusal_order::Verdict;
 // meanderpeg_part.
 #[unsafe(no_mangle)]
 pub extern "C" fn meanderpeg_directory_type_guid(d: &[u8], k: usize, part: &mut [usize; 2]) -> u32
-    ensures { (result, part.new) ≡ replied (reply (decide (readerTests d.now))
-        (startAndLength d.now (shownGuid d.now k))) part.old }
+    ensures { (result, part.new) ≡ replied (reply (decide (reader_tests d.now))
+        (start_and_length d.now (shown_guid d.now k))) part.old }
 {
     let verdict = refusal(d);
     match verdict {
@@ -36,8 +36,8 @@ pub extern "C" fn meanderpeg_directory_type_guid(d: &[u8], k: usize, part: &mut 
 // Its five numbers. The array of five has the layout of struct meanderpeg_directory_entry.
 #[unsafe(no_mangle)]
 pub extern "C" fn meanderpeg_directory_numbers(d: &[u8], k: usize, numbers: &mut [u32; 5]) -> u32
-    ensures { (result, numbers.new) ≡ replied (reply (decide (readerTests d.now))
-        (five (shownNumbers d.now k))) numbers.old }
+    ensures { (result, numbers.new) ≡ replied (reply (decide (reader_tests d.now))
+        (five (shown_numbers d.now k))) numbers.old }
 {
     let verdict = refusal(d);
     match verdict {

@@ -6,10 +6,10 @@ use Rattle.gather.specs.Gather.{Answer, refusal, place}
 use Rattle.c_reply.specs.Replied.{replied}
 
 -- the place in two numbers, its address and the total; or the refusal
-abbrev pub placeReply : Answer → Reply (List ℕ)
-placeReply (refusal number) = refuses number []
-placeReply (place address total) = gives (address ∷ total ∷ [])
+abbrev pub place_reply : Answer → Reply (List ℕ)
+place_reply (refusal number) = refuses number []
+place_reply (place address total) = gives (address ∷ total ∷ [])
 
 -- the number and what stands behind the pointer (X5), and the window afterwards
-abbrev pub exportedPlace : Answer × List ℕ → (old : List ℕ) → (ℕ × List ℕ) × List ℕ
-exportedPlace outcome old = (replied (placeReply outcome.0) old, outcome.1)
+abbrev pub exported_place : Answer × List ℕ → (old : List ℕ) → (ℕ × List ℕ) × List ℕ
+exported_place outcome old = (replied (place_reply outcome.0) old, outcome.1)

@@ -2,7 +2,7 @@
 // behind a reference as a pointer.
 ghost use Rattle.std.specs.Prelude.{◌≡◌};
 ghost use Rattle.gather.specs.Gather.{gathered};
-ghost use Rattle.c_gather.specs.Gather.{exportedPlace};
+ghost use Rattle.c_gather.specs.Gather.{exported_place};
 
 use gather::Gathered;
 
@@ -16,7 +16,7 @@ pub extern "C" fn meanderpeg_gather(
     place: &mut [u64; 2],
 ) -> u32
     ensures { ((result, place.new), w.new)
-        ≡ exportedPlace (gathered w.old base first) place.old }
+        ≡ exported_place (gathered w.old base first) place.old }
 {
     match gather::gather(w, base, first) {
         Gathered::Refused(refusal) => refusal.number(),

@@ -3,18 +3,18 @@ use Prim.Native.Nat.{ℕ}
 use mathlib.Core.Path.{◌≡◌, refl}
 use Rattle.update_session.specs.declared.Session.{Session}
 use Rattle.update_session.specs.declared.Session.TheVariants.{Regular, Staging, Trial, Fallback, Restart}
-use Rattle.c_session.specs.Numbers.{numbersOf, sessionNamed}
+use Rattle.c_session.specs.Numbers.{numbers_of, session_named}
 
 -- the session that an exported function answers is the session that the next call is given by it
-pub session-back : (q : Session) → sessionNamed (numbersOf q) ≡ q
-unfolding sessionNamed
-session-back Regular = refl
-session-back (Staging bank set) = refl
-session-back Trial = refl
-session-back Fallback = refl
-session-back Restart = refl
+pub session_back : (q : Session) → session_named (numbers_of q) ≡ q
+unfolding session_named
+session_back Regular = refl
+session_back (Staging bank set) = refl
+session_back Trial = refl
+session_back Fallback = refl
+session_back Restart = refl
 
 -- numbers of kind 0, a zeroed struct among them, count as Restart, for which no call is named (N25)
-pub none-as-restart : (bank set : ℕ) → sessionNamed (record { kind = 0; bank = bank; set = set }) ≡ Restart
-unfolding sessionNamed
-none-as-restart bank set = refl
+pub none_as_restart : (bank set : ℕ) → session_named (record { kind = 0; bank = bank; set = set }) ≡ Restart
+unfolding session_named
+none_as_restart bank set = refl

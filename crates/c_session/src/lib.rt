@@ -1,6 +1,6 @@
 // A session as C has it (X1; include/meanderpeg.h): three numbers, by value.
 ghost use Rattle.std.specs.Prelude.{◌≡◌};
-ghost use Rattle.c_session.specs.Numbers.{noSession, sessionNamed, numbersOf};
+ghost use Rattle.c_session.specs.Numbers.{no_session, session_named, numbers_of};
 
 use update_session::Session;
 
@@ -16,7 +16,7 @@ pub struct SessionNumbers {
 
 // What start-up and repair answer where there is no session (X4).
 pub fn no_session() -> SessionNumbers
-    ensures { result ≡ noSession }
+    ensures { result ≡ no_session }
 {
     SessionNumbers {
         kind: 0,
@@ -27,7 +27,7 @@ pub fn no_session() -> SessionNumbers
 
 // The session that the numbers name. Where they name none, Restart, which no call is named for (X2).
 pub fn session_named(numbers: SessionNumbers) -> Session
-    ensures { result ≡ sessionNamed numbers }
+    ensures { result ≡ session_named numbers }
 {
     let kind = numbers.kind;
     match kind {
@@ -44,7 +44,7 @@ pub fn session_named(numbers: SessionNumbers) -> Session
 
 // The way back.
 pub fn numbers_of(session: Session) -> SessionNumbers
-    ensures { result ≡ numbersOf session }
+    ensures { result ≡ numbers_of session }
 {
     match session {
         Session::Regular => SessionNumbers {

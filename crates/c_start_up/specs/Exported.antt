@@ -3,14 +3,14 @@
 use Rattle.std.specs.Prelude.{ℕ, List}
 use Rattle.refusal_order.specs.Decide.{Reply}
 use Rattle.update_session.specs.declared.Session.{Session}
-use Rattle.c_session.specs.Numbers.{noSession, numbersOf}
+use Rattle.c_session.specs.Numbers.{no_session, numbers_of}
 use Rattle.c_answer.specs.declared.AnswerNumbers.{AnswerNumbers}
-use Rattle.c_answer.specs.Answers.{passedNumbers, exportedReply}
+use Rattle.c_answer.specs.Answers.{passed_numbers, exported_reply}
 
 -- start-up: the session, and no list (S2)
-abbrev pub exportedStart : Reply Session → AnswerNumbers
-exportedStart started = exportedReply (λ q. passedNumbers (numbersOf q) 0) noSession started
+abbrev pub exported_start : Reply Session → AnswerNumbers
+exported_start started = exported_reply (λ q. passed_numbers (numbers_of q) 0) no_session started
 
 -- repair: no session, the count of pairs, and the store slice (R27, X4)
-abbrev pub exportedRepair : Reply ℕ × List ℕ → AnswerNumbers × List ℕ
-exportedRepair repaired = (exportedReply (passedNumbers noSession) noSession repaired.0, repaired.1)
+abbrev pub exported_repair : Reply ℕ × List ℕ → AnswerNumbers × List ℕ
+exported_repair repaired = (exported_reply (passed_numbers no_session) no_session repaired.0, repaired.1)

@@ -1,9 +1,9 @@
 // The way in from C and Rust (include/meanderpeg.h): start-up and repair. A slice passes as a pointer and a length; the
 // answer is a struct by value (X3). A refusal leaves the store slice as it was (N105).
 ghost use Rattle.std.specs.Prelude.{◌≡◌};
-ghost use Rattle.update_start_up.specs.StartUp.{startUp};
+ghost use Rattle.update_start_up.specs.StartUp.{start_up_of};
 ghost use Rattle.update_repair.specs.Repair.{repaired};
-ghost use Rattle.c_start_up.specs.Exported.{exportedStart, exportedRepair};
+ghost use Rattle.c_start_up.specs.Exported.{exported_start, exported_repair};
 
 use c_answer::{AnswerNumbers, passed, refused};
 use c_session::{no_session, numbers_of};
@@ -13,7 +13,7 @@ use update_start_up::Started;
 // The session that an area and the booted bank give (S2), none with a refusal (X4).
 #[unsafe(no_mangle)]
 pub extern "C" fn meanderpeg_start_up(area: &[u8], booted: u32) -> AnswerNumbers
-    ensures { result ≡ exportedStart (startUp area.now booted) }
+    ensures { result ≡ exported_start (start_up_of area.now booted) }
 {
     let started = update_start_up::start_up(area, booted);
     match started {
@@ -25,7 +25,7 @@ pub extern "C" fn meanderpeg_start_up(area: &[u8], booted: u32) -> AnswerNumbers
 // Lists the stores of a repair (R27), and gives no session (X4).
 #[unsafe(no_mangle)]
 pub extern "C" fn meanderpeg_repair(area: &[u8], out: &mut [u32]) -> AnswerNumbers
-    ensures { (result, out.new) ≡ exportedRepair (repaired area.now out.old) }
+    ensures { (result, out.new) ≡ exported_repair (repaired area.now out.old) }
 {
     let done = update_repair::repair(area, out);
     match done {

@@ -3,18 +3,18 @@
 // Each function returns 0 and sets its value; or returns the refusal, N10 to N16, and sets nothing (X5).
 // Each clause asks the verdict twice: in `repliedBy`, and in what it gives, whose branch for a refusal is dead there.
 ghost use Rattle.std.specs.Prelude.{◌≡◌};
-ghost use Rattle.capsule_check.specs.Verdict.{itemVerdict};
+ghost use Rattle.capsule_check.specs.Verdict.{item_verdict};
 ghost use Rattle.capsule_check.specs.Item.{located};
-ghost use Rattle.capsule_values.specs.Shown.{typeGuidOf, imageIndexOf, hardwareInstanceOf};
-ghost use Rattle.c_reply.specs.Replied.{repliedBy};
+ghost use Rattle.capsule_values.specs.Shown.{type_guid_of, image_index_of, hardware_instance_of};
+ghost use Rattle.c_reply.specs.Replied.{replied_by};
 
 use refusal_order::Verdict;
 
 // The type GUID of item k, zeros of a driver (C21).
 #[unsafe(no_mangle)]
 pub extern "C" fn meanderpeg_capsule_type_guid(s: &[u8], k: usize, guid: &mut [u8; 16]) -> u32
-    ensures { (result, guid.new) ≡ repliedBy (itemVerdict s.now k)
-        (typeGuidOf s.now (located s.now k)) guid.old }
+    ensures { (result, guid.new) ≡ replied_by (item_verdict s.now k)
+        (type_guid_of s.now (located s.now k)) guid.old }
 {
     let values = capsule_values::values_of(s, k);
     let verdict = values.verdict;
@@ -31,8 +31,8 @@ pub extern "C" fn meanderpeg_capsule_type_guid(s: &[u8], k: usize, guid: &mut [u
 // Its image index, 0 of a driver.
 #[unsafe(no_mangle)]
 pub extern "C" fn meanderpeg_capsule_image_index(s: &[u8], k: usize, index: &mut u8) -> u32
-    ensures { (result, index.new) ≡ repliedBy (itemVerdict s.now k)
-        (imageIndexOf s.now (located s.now k)) index.old }
+    ensures { (result, index.new) ≡ replied_by (item_verdict s.now k)
+        (image_index_of s.now (located s.now k)) index.old }
 {
     let values = capsule_values::values_of(s, k);
     let verdict = values.verdict;
@@ -52,8 +52,8 @@ pub extern "C" fn meanderpeg_capsule_hardware_instance(
     k: usize,
     instance: &mut u64,
 ) -> u32
-    ensures { (result, instance.new) ≡ repliedBy (itemVerdict s.now k)
-        (hardwareInstanceOf s.now (located s.now k)) instance.old }
+    ensures { (result, instance.new) ≡ replied_by (item_verdict s.now k)
+        (hardware_instance_of s.now (located s.now k)) instance.old }
 {
     let values = capsule_values::values_of(s, k);
     let verdict = values.verdict;

@@ -2,11 +2,11 @@
 // and a length, an array behind a reference as a pointer.
 // Parted from its neighbours for the prover: each must-fail edit proves its whole crate again.
 ghost use Rattle.std.specs.Prelude.{◌≡◌};
-ghost use Rattle.capsule_check.specs.Verdict.{itemVerdict};
+ghost use Rattle.capsule_check.specs.Verdict.{item_verdict};
 ghost use Rattle.capsule_check.specs.Item.{located};
-ghost use Rattle.fields.specs.Part.{startAndLength};
-ghost use Rattle.capsule_parts.specs.Parts.{vendorCodePart};
-ghost use Rattle.c_reply.specs.Replied.{repliedBy};
+ghost use Rattle.fields.specs.Part.{start_and_length};
+ghost use Rattle.capsule_parts.specs.Parts.{vendor_code_part};
+ghost use Rattle.c_reply.specs.Replied.{replied_by};
 
 use refusal_order::Verdict;
 
@@ -15,8 +15,8 @@ use refusal_order::Verdict;
 // The clause asks the verdict twice: in `repliedBy`, and in what it gives, whose branch for a refusal is dead there.
 #[unsafe(no_mangle)]
 pub extern "C" fn meanderpeg_capsule_vendor_code(s: &[u8], k: usize, part: &mut [usize; 2]) -> u32
-    ensures { (result, part.new) ≡ repliedBy (itemVerdict s.now k)
-        (startAndLength s.now (vendorCodePart s.now (located s.now k))) part.old }
+    ensures { (result, part.new) ≡ replied_by (item_verdict s.now k)
+        (start_and_length s.now (vendor_code_part s.now (located s.now k))) part.old }
 {
     let places = capsule_parts::places_of(s, k);
     let verdict = places.verdict;

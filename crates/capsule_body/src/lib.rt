@@ -1,8 +1,8 @@
 // The rules on a capsule's body with the list of offsets, and where its items lie (C6 to C12). Each rule is a function
 // that answers what its definition says.
 ghost use Rattle.std.specs.Prelude.{◌≡◌, true, ◌+◌, ◌*◌, ◌<◌, ◌≤◌, length};
-ghost use Rattle.capsule_body.specs.Body.{all, items, offset, offsetRight, bodyRight, itemEnd};
-ghost use Rattle.capsule_body.specs.Body.{item as itemBytes};
+ghost use Rattle.capsule_body.specs.Body.{all, items, offset, offset_right, body_right, item_end};
+ghost use Rattle.capsule_body.specs.Body.{item as item_bytes};
 
 // How many items there are at most (C9).
 pub const ITEM_LIMIT: usize = 64;
@@ -10,7 +10,7 @@ pub const ITEM_LIMIT: usize = 64;
 // N14, for one offset of n, in a body that holds the list.
 pub fn offset_right(b: &[u8], n: usize, k: usize) -> bool
     requires { (n ≡ items b.now) × (n ≤ 64) × (k < n) × (8 + 8 * n ≤ length b.now) }
-    ensures { result ≡ offsetRight b.now k }
+    ensures { result ≡ offset_right b.now k }
 {
     let at = fields::read64(b, 8 + 8 * k) as usize;
     if at < 8 + 8 * n {
@@ -27,7 +27,7 @@ pub fn offset_right(b: &[u8], n: usize, k: usize) -> bool
 
 // Where item k of n starts in the body.
 pub fn item_start(b: &[u8], n: usize, k: usize) -> usize
-    requires { (bodyRight b.now ≡ true) × (n ≡ items b.now) × (k < n) }
+    requires { (body_right b.now ≡ true) × (n ≡ items b.now) × (k < n) }
     ensures { result ≡ offset b.now k }
 {
     fields::read64(b, 8 + 8 * k) as usize
@@ -35,8 +35,8 @@ pub fn item_start(b: &[u8], n: usize, k: usize) -> usize
 
 // Where item k of n ends in the body.
 pub fn item_end(b: &[u8], n: usize, k: usize) -> usize
-    requires { (bodyRight b.now ≡ true) × (n ≡ items b.now) × (k < n) }
-    ensures { result ≡ itemEnd b.now k }
+    requires { (body_right b.now ≡ true) × (n ≡ items b.now) × (k < n) }
+    ensures { result ≡ item_end b.now k }
 {
     if k + 1 < n {
         return item_start(b, n, k + 1);
@@ -47,7 +47,7 @@ pub fn item_end(b: &[u8], n: usize, k: usize) -> usize
 // The offsets of all n items.
 pub fn offsets_right(b: &[u8], n: usize) -> bool
     requires { (8 ≤ length b.now) × (n ≡ items b.now) × (n ≤ 64) }
-    ensures { result ≡ all (offsetRight b.now) (items b.now) }
+    ensures { result ≡ all (offset_right b.now) (items b.now) }
 {
     if b.len() < 8 + 8 * n {
         return false;
@@ -64,7 +64,7 @@ pub fn offsets_right(b: &[u8], n: usize) -> bool
 
 // The body, its payloads aside: N14.
 pub fn body_right(b: &[u8]) -> bool
-    ensures { result ≡ bodyRight b.now }
+    ensures { result ≡ body_right b.now }
 {
     if b.len() < 8 {
         return false;
@@ -81,8 +81,8 @@ pub fn body_right(b: &[u8]) -> bool
 
 // The bytes of item k of n.
 pub fn item_bytes(b: &[u8], n: usize, k: usize) -> &[u8]
-    requires { (bodyRight b.now ≡ true) × (n ≡ items b.now) × (k < n) }
-    ensures { result.now ≡ itemBytes b.now k }
+    requires { (body_right b.now ≡ true) × (n ≡ items b.now) × (k < n) }
+    ensures { result.now ≡ item_bytes b.now k }
 {
     let start = item_start(b, n, k);
     let end = item_end(b, n, k);

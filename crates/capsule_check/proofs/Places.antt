@@ -10,16 +10,16 @@ use lib.ListN.{length, drop}
 use lib.Seq.{drop-drop}
 use Rattle.refusals.specs.declared.Refusal.{Refusal}
 use Rattle.refusals.specs.declared.Refusal.TheVariants.{NoItem}
-use Rattle.capsule_header.specs.Header.{headerSize, body}
-use Rattle.capsule_payloads.specs.Payload.{payloadRight}
+use Rattle.capsule_header.specs.Header.{header_size, body}
+use Rattle.capsule_payloads.specs.Payload.{payload_right}
 use Rattle.fields.specs.Part.{part}
-use Rattle.capsule_body.specs.Body.{drivers, payloads, items, offset, itemEnd}
-use Rattle.capsule_payloads.specs.Payload.{payloadAtRight, payloadsRight}
-use Rattle.capsule_body.specs.Body.{item as itemBytes}
-use Rattle.capsule_header.proofs.Header.{body-length}
-use Rattle.capsule_body.proofs.Body.{all-at, item_in}
-use Rattle.capsule_check.specs.Verdict.{unless, after, verdict, itemVerdict}
-use Rattle.capsule_check.specs.Item.{itemStartIn, itemEndIn, item_of, found, located}
+use Rattle.capsule_body.specs.Body.{drivers, payloads, items, offset, item_end}
+use Rattle.capsule_payloads.specs.Payload.{payload_at_right, payloads_right}
+use Rattle.capsule_body.specs.Body.{item as item_bytes}
+use Rattle.capsule_header.proofs.Header.{body_length}
+use Rattle.capsule_body.proofs.Body.{all_at, item_in}
+use Rattle.capsule_check.specs.Verdict.{unless, after, verdict, item_verdict}
+use Rattle.capsule_check.specs.Item.{item_start_in, item_end_in, item_of, found, located}
 use Rattle.refusal_order.specs.declared.Verdict.{Verdict}
 use Rattle.refusal_order.specs.declared.Verdict.TheVariants.{Passed}
 use Rattle.refusal_order.specs.declared.Verdict.TheVariants as Verdict
@@ -28,21 +28,21 @@ use Rattle.capsule_check.specs.declared.Item.TheVariants.{Driver, Payload, Refus
 use Rattle.capsule_check.proofs.PassedCheck.{faultless, Sound}
 
 module _ (s : List ℕ) (k : ℕ) where
-  pub located-refused : (r : Refusal) → verdict s ≡ Verdict.Refused r → located s k ≡ Refused r
-  unfolding located itemVerdict
-  located-refused r e = rw e
+  pub located_refused : (r : Refusal) → verdict s ≡ Verdict.Refused r → located s k ≡ Refused r
+  unfolding located item_verdict
+  located_refused r e = rw e
 
-  pub located-none : verdict s ≡ Passed → items (body s) ≤ k → located s k ≡ Refused NoItem
-  unfolding located itemVerdict
-  located-none e h = rw (e, le-ltb k (items (body s)) h)
+  pub located_none : verdict s ≡ Passed → items (body s) ≤ k → located s k ≡ Refused NoItem
+  unfolding located item_verdict
+  located_none e h = rw (e, le-ltb k (items (body s)) h)
 
-  pub located-driver : verdict s ≡ Passed → k < items (body s) → k < drivers (body s) → located s k ≡ Driver (itemStartIn s k) (itemEndIn s k)
-  unfolding located itemVerdict
-  located-driver e h d = rw (e, lt-ltb k (items (body s)) h, lt-ltb k (drivers (body s)) d)
+  pub located_driver : verdict s ≡ Passed → k < items (body s) → k < drivers (body s) → located s k ≡ Driver (item_start_in s k) (item_end_in s k)
+  unfolding located item_verdict
+  located_driver e h d = rw (e, lt-ltb k (items (body s)) h, lt-ltb k (drivers (body s)) d)
 
-  pub located-payload : verdict s ≡ Passed → k < items (body s) → drivers (body s) ≤ k → located s k ≡ Payload (itemStartIn s k) (itemEndIn s k)
-  unfolding located itemVerdict
-  located-payload e h d = rw (e, lt-ltb k (items (body s)) h, le-ltb k (drivers (body s)) d)
+  pub located_payload : verdict s ≡ Passed → k < items (body s) → drivers (body s) ≤ k → located s k ≡ Payload (item_start_in s k) (item_end_in s k)
+  unfolding located item_verdict
+  located_payload e h d = rw (e, lt-ltb k (items (body s)) h, le-ltb k (drivers (body s)) d)
 
 -- where an item of a faultless capsule lies
 pub record Inside (s : List ℕ) (a e : ℕ) : Type 0 where
@@ -50,19 +50,19 @@ pub record Inside (s : List ℕ) (a e : ℕ) : Type 0 where
   pub within : e ≤ length s
 
 module _ (s : List ℕ) (k : ℕ) (sound : Sound s) (lt : k < items (body s)) where
-  pub item-inside : Inside s (itemStartIn s k) (itemEndIn s k)
-  unfolding itemStartIn itemEndIn
-  item-inside =
+  pub item_inside : Inside s (item_start_in s k) (item_end_in s k)
+  unfolding item_start_in item_end_in
+  item_inside =
       let i = item_in (body s) sound.offsets k lt in
-      record { some = omega arith; within = omega (arith, body-length s sound.sizes) }
+      record { some = omega arith; within = omega (arith, body_length s sound.sizes) }
 
   -- its bytes are the item's
-  pub item-is : part s (itemStartIn s k) (itemEndIn s k) ≡ itemBytes (body s) k
-  unfolding itemStartIn itemEndIn itemBytes body
-  item-is =
-      let h = headerSize s in
+  pub item_is : part s (item_start_in s k) (item_end_in s k) ≡ item_bytes (body s) k
+  unfolding item_start_in item_end_in item_bytes body
+  item_is =
+      let h = header_size s in
       let b = drop h s in
-      let n : h + itemEnd b k - (h + offset b k) ≡ itemEnd b k - offset b k = omega arith in
+      let n : h + item_end b k - (h + offset b k) ≡ item_end b k - offset b k = omega arith in
       rw (n, drop-drop (offset b k) h s)
 
 -- ---- the definition, turned round: what an answer says of the capsule
@@ -72,11 +72,11 @@ told (Driver a e) = Passed
 told (Payload a e) = Passed
 told (Refused r) = Verdict.Refused r
 
-pub told-judged : (s : List ℕ) (k : ℕ) → told (located s k) ≡ itemVerdict s k
+pub told_judged : (s : List ℕ) (k : ℕ) → told (located s k) ≡ item_verdict s k
 unfolding located
-told-judged s k = go (itemVerdict s k) (ltb k (drivers (body s)))
+told_judged s k = go (item_verdict s k) (ltb k (drivers (body s)))
   where
-    go : (v : Verdict) (d : Bool) → told (found v (item_of d (itemStartIn s k) (itemEndIn s k))) ≡ v
+    go : (v : Verdict) (d : Bool) → told (found v (item_of d (item_start_in s k) (item_end_in s k))) ≡ v
     go Passed true = refl
     go Passed false = refl
     go (Verdict.Refused r) d = refl
@@ -84,31 +84,31 @@ told-judged s k = go (itemVerdict s k) (ltb k (drivers (body s)))
 -- what holds of an item that was found: it lies in the capsule, and a payload is right
 unfoldable pub Holds : List ℕ → Item → Type 0
 Holds s (Driver a e) = Inside s a e
-Holds s (Payload a e) = Inside s a e × (payloadRight (part s a e) ≡ true)
+Holds s (Payload a e) = Inside s a e × (payload_right (part s a e) ≡ true)
 Holds s (Refused r) = Unit
 
-payload-right : (s : List ℕ) (k : ℕ) → Sound s → k < items (body s) → drivers (body s) ≤ k → payloadRight (part s (itemStartIn s k) (itemEndIn s k)) ≡ true
-unfolding payloadsRight payloadAtRight
-payload-right s k sound lt low =
+payload_right_lem : (s : List ℕ) (k : ℕ) → Sound s → k < items (body s) → drivers (body s) ≤ k → payload_right (part s (item_start_in s k) (item_end_in s k)) ≡ true
+unfolding payloads_right payload_at_right
+payload_right_lem s k sound lt low =
     let b = body s in
     let j = k - drivers b in
     let e : drivers b + j ≡ k = omega arith in
-    rw (item-is s k sound lt) (rw e at (all-at (payloadAtRight b) (payloads b) j sound.payloads (omega arith)))
+    rw (item_is s k sound lt) (rw e at (all_at (payload_at_right b) (payloads b) j sound.payloads (omega arith)))
 
 pub holds : (s : List ℕ) (k : ℕ) → Holds s (located s k)
-unfolding located itemVerdict Holds
+unfolding located item_verdict Holds
 holds s k = go (verdict s) refl
   where
-    kinds : Sound s → k < items (body s) → (d : Bool) → ltb k (drivers (body s)) ≡ d → Holds s (item_of d (itemStartIn s k) (itemEndIn s k))
-    kinds sound lt true q = item-inside s k sound lt
-    kinds sound lt false q = (item-inside s k sound lt, payload-right s k sound lt (ltb-false k (drivers (body s)) q))
+    kinds : Sound s → k < items (body s) → (d : Bool) → ltb k (drivers (body s)) ≡ d → Holds s (item_of d (item_start_in s k) (item_end_in s k))
+    kinds sound lt true q = item_inside s k sound lt
+    kinds sound lt false q = (item_inside s k sound lt, payload_right_lem s k sound lt (ltb-false k (drivers (body s)) q))
 
     numbers : Sound s → (t : Bool) → ltb k (items (body s)) ≡ t
-        → Holds s (found (unless t NoItem Passed) (item_of (ltb k (drivers (body s))) (itemStartIn s k) (itemEndIn s k)))
+        → Holds s (found (unless t NoItem Passed) (item_of (ltb k (drivers (body s))) (item_start_in s k) (item_end_in s k)))
     numbers sound true q = kinds sound (ltb-true k (items (body s)) q) (ltb k (drivers (body s))) refl
     numbers sound false q = tt
 
     go : (v : Verdict) → verdict s ≡ v
-        → Holds s (found (after v (unless (ltb k (items (body s))) NoItem Passed)) (item_of (ltb k (drivers (body s))) (itemStartIn s k) (itemEndIn s k)))
+        → Holds s (found (after v (unless (ltb k (items (body s))) NoItem Passed)) (item_of (ltb k (drivers (body s))) (item_start_in s k) (item_end_in s k)))
     go Passed e = numbers (faultless s e) (ltb k (items (body s))) refl
     go (Verdict.Refused r) e = tt

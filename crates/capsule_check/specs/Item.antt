@@ -1,9 +1,9 @@
 -- Where item k of a capsule s lies, and of which kind it is, or the refusal (C8, C12, C13, C22). `Driver a e` and
 -- `Payload a e` are an item from byte a of the capsule up to, not including, byte e. Assumes nothing.
 use Rattle.std.specs.Prelude.{ℕ, ◌+◌, Bool, true, false, List, ltb}
-use Rattle.capsule_header.specs.Header.{headerSize, body}
-use Rattle.capsule_body.specs.Body.{drivers, offset, itemEnd}
-use Rattle.capsule_check.specs.Verdict.{itemVerdict}
+use Rattle.capsule_header.specs.Header.{header_size, body}
+use Rattle.capsule_body.specs.Body.{drivers, offset, item_end}
+use Rattle.capsule_check.specs.Verdict.{item_verdict}
 use Rattle.refusal_order.specs.declared.Verdict.{Verdict}
 use Rattle.refusal_order.specs.declared.Verdict.TheVariants.{Passed}
 use Rattle.refusal_order.specs.declared.Verdict.TheVariants as Verdict
@@ -11,11 +11,11 @@ use Rattle.capsule_check.specs.declared.Item.{Item}
 use Rattle.capsule_check.specs.declared.Item.TheVariants.{Driver, Payload, Refused}
 
 -- offsets count from the body's start (C8), which is at HeaderSize (C6)
-unfoldable pub itemStartIn : List ℕ → ℕ → ℕ
-itemStartIn s k = headerSize s + offset (body s) k
+unfoldable pub item_start_in : List ℕ → ℕ → ℕ
+item_start_in s k = header_size s + offset (body s) k
 
-unfoldable pub itemEndIn : List ℕ → ℕ → ℕ
-itemEndIn s k = headerSize s + itemEnd (body s) k
+unfoldable pub item_end_in : List ℕ → ℕ → ℕ
+item_end_in s k = header_size s + item_end (body s) k
 
 -- drivers come first (C8)
 abbrev pub item_of : Bool → ℕ → ℕ → Item
@@ -29,4 +29,4 @@ found (Verdict.Refused r) i = Refused r
 
 -- the item k, or the refusal that stands in its way
 unfoldable pub located : List ℕ → ℕ → Item
-located s k = found (itemVerdict s k) (item_of (ltb k (drivers (body s))) (itemStartIn s k) (itemEndIn s k))
+located s k = found (item_verdict s k) (item_of (ltb k (drivers (body s))) (item_start_in s k) (item_end_in s k))

@@ -2,10 +2,10 @@
 use Rattle.std.specs.Prelude.{ℕ, Bool, true, false, List, leb, ltb, length}
 use Rattle.refusals.specs.declared.Refusal.{Refusal}
 use Rattle.refusals.specs.declared.Refusal.TheVariants.{CapsuleShort, CapsuleSizes, CapsuleFlags, CapsuleGuid, CapsuleBody, CapsulePayload, NoItem}
-use Rattle.capsule_header.specs.Header.{headerLeast, sizesRight, flags, flagsRight, guidRight, body}
-use Rattle.capsule_body.specs.Body.{items, bodyRight}
-use Rattle.capsule_payloads.specs.Payload.{payloadsRight}
-use Rattle.refusal_order.specs.Decide.{verdictNumber}
+use Rattle.capsule_header.specs.Header.{header_least, sizes_right, flags, flags_right, guid_right, body}
+use Rattle.capsule_body.specs.Body.{items, body_right}
+use Rattle.capsule_payloads.specs.Payload.{payloads_right}
+use Rattle.refusal_order.specs.Decide.{verdict_number}
 use Rattle.refusal_order.specs.declared.Verdict.{Verdict}
 use Rattle.refusal_order.specs.declared.Verdict.TheVariants.{Passed, Refused}
 
@@ -17,12 +17,12 @@ unless false r rest = Refused r
 -- N10 to N15, by number (N109)
 unfoldable pub verdict : List ℕ → Verdict
 verdict s =
-    unless (leb headerLeast (length s)) CapsuleShort
-    (unless (sizesRight s) CapsuleSizes
-    (unless (flagsRight (flags s)) CapsuleFlags
-    (unless (guidRight s) CapsuleGuid
-    (unless (bodyRight (body s)) CapsuleBody
-    (unless (payloadsRight (body s)) CapsulePayload Passed)))))
+    unless (leb header_least (length s)) CapsuleShort
+    (unless (sizes_right s) CapsuleSizes
+    (unless (flags_right (flags s)) CapsuleFlags
+    (unless (guid_right s) CapsuleGuid
+    (unless (body_right (body s)) CapsuleBody
+    (unless (payloads_right (body s)) CapsulePayload Passed)))))
 
 -- a refusal stands; what is faultless goes on to the next verdict
 abbrev pub after : Verdict → Verdict → Verdict
@@ -30,9 +30,9 @@ after Passed next = next
 after (Refused r) next = Refused r
 
 -- N16, of a faultless capsule alone, since it comes last
-unfoldable pub itemVerdict : List ℕ → ℕ → Verdict
-itemVerdict s k = after (verdict s) (unless (ltb k (items (body s))) NoItem Passed)
+unfoldable pub item_verdict : List ℕ → ℕ → Verdict
+item_verdict s k = after (verdict s) (unless (ltb k (items (body s))) NoItem Passed)
 
 -- what the sister entry gives, 0 for none (C23)
-abbrev pub refusalNumber : List ℕ → ℕ → ℕ
-refusalNumber s k = verdictNumber (itemVerdict s k)
+abbrev pub refusal_number : List ℕ → ℕ → ℕ
+refusal_number s k = verdict_number (item_verdict s k)

@@ -1,8 +1,8 @@
 // What is lent to the packer of capsules: tables of drivers and payloads, entry by entry (C26, C27). These functions
 // serve the packer, which counts the entries first; those that read an entry ask that it lies in its table.
 ghost use Rattle.std.specs.Prelude.{◌≡◌, ◌+◌, ◌*◌, ◌≤◌, ◌<◌, leb, length};
-ghost use Rattle.capsule_contents.specs.Lent.{start_at, length_at, driverAt, payloadAt, driversIn, payloadsIn};
-ghost use Rattle.capsule_contents.specs.Sizes.{cap, sizeCap, payloadSize, itemSize};
+ghost use Rattle.capsule_contents.specs.Lent.{start_at, length_at, driver_at, payload_at, drivers_in, payloads_in};
+ghost use Rattle.capsule_contents.specs.Sizes.{cap, size_cap, payload_size, item_size};
 
 use capsule_payloads::header_length;
 use fields::{read32, read64};
@@ -40,7 +40,7 @@ pub fn part_inside(table: &[u8], at: usize, limit: usize) -> bool
 
 // A sum that stops at the cap.
 pub fn add_capped(sum: usize, more: usize) -> usize
-    requires { sum ≤ sizeCap }
+    requires { sum ≤ size_cap }
     ensures { result ≡ cap (sum + more) }
 {
     if SIZE_CAP - sum < more {
@@ -51,8 +51,8 @@ pub fn add_capped(sum: usize, more: usize) -> usize
 
 // How many bytes payload j of the table has as an item, or the cap.
 pub fn payload_size(table: &[u8], j: usize) -> usize
-    requires { j < payloadsIn table.now }
-    ensures { result ≡ cap (payloadSize table.now j) }
+    requires { j < payloads_in table.now }
+    ensures { result ≡ cap (payload_size table.now j) }
 {
     let at = PAYLOAD_ENTRY * j;
     let image = read64(table, at + IMAGE_AT + 8) as usize;
@@ -62,8 +62,8 @@ pub fn payload_size(table: &[u8], j: usize) -> usize
 
 // How many bytes item k has, drivers first, or the cap.
 pub fn item_size(driver_table: &[u8], payload_table: &[u8], k: usize) -> usize
-    requires { k < driversIn driver_table.now + payloadsIn payload_table.now }
-    ensures { result ≡ cap (itemSize driver_table.now payload_table.now k) }
+    requires { k < drivers_in driver_table.now + payloads_in payload_table.now }
+    ensures { result ≡ cap (item_size driver_table.now payload_table.now k) }
 {
     let first = driver_table.len() / DRIVER_ENTRY;
     if k < first {

@@ -13,8 +13,8 @@ abbrev pub count_of : Verdict → ℕ → ℕ
 count_of Passed n = n
 count_of (Refused r) n = 0
 
-unfoldable pub driverCount : List ℕ → ℕ
-driverCount s = count_of (verdict s) (drivers (body s))
+unfoldable pub driver_count : List ℕ → ℕ
+driver_count s = count_of (verdict s) (drivers (body s))
 
-unfoldable pub payloadCount : List ℕ → ℕ
-payloadCount s = count_of (verdict s) (payloads (body s))
+unfoldable pub payload_count : List ℕ → ℕ
+payload_count s = count_of (verdict s) (payloads (body s))

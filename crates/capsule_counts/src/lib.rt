@@ -2,7 +2,7 @@
 // refused one answers 0, and `capsule_items::refusal` says which refusal it was.
 ghost use Rattle.std.specs.Prelude.{◌≡◌};
 ghost use Rattle.capsule_check.specs.Verdict.{verdict};
-ghost use Rattle.capsule_counts.specs.Count.{driverCount, payloadCount};
+ghost use Rattle.capsule_counts.specs.Count.{driver_count, payload_count};
 
 use capsule_header::body_of;
 use refusal_order::Verdict;
@@ -17,7 +17,7 @@ pub struct Counts {
 
 // Those of a faultless capsule; none with a refusal. It serves c_capsule too.
 pub fn counts_of(s: &[u8]) -> Counts
-    ensures { (result.drivers ≡ driverCount s.now) × (result.payloads ≡ payloadCount s.now)
+    ensures { (result.drivers ≡ driver_count s.now) × (result.payloads ≡ payload_count s.now)
         × (result.verdict ≡ verdict s.now) }
 {
     let checked = capsule_check::check(s);
@@ -42,14 +42,14 @@ pub fn counts_of(s: &[u8]) -> Counts
 
 // How many drivers a faultless capsule has.
 pub fn driver_count(s: &[u8]) -> usize
-    ensures { result ≡ driverCount s.now }
+    ensures { result ≡ driver_count s.now }
 {
     counts_of(s).drivers
 }
 
 // How many payloads, as above.
 pub fn payload_count(s: &[u8]) -> usize
-    ensures { result ≡ payloadCount s.now }
+    ensures { result ≡ payload_count s.now }
 {
     counts_of(s).payloads
 }

@@ -9,30 +9,30 @@ use lib.Dec.{leb, eqb}
 use lib.ListN.{length, drop, take, length-drop}
 use lib.Seq.{take_all}
 use Rattle.fields.proofs.Tests.{both}
-use Rattle.capsule_header.specs.Header.{headerSize, capsuleImageSize, sizesRight, body}
+use Rattle.capsule_header.specs.Header.{header_size, capsule_image_size, sizes_right, body}
 
-module _ (s : List ℕ) (right : sizesRight s ≡ true) where
+module _ (s : List ℕ) (right : sizes_right s ≡ true) where
   -- the header ends in the capsule
-  pub header-in : (28 ≤ headerSize s) × (headerSize s ≤ length s)
-  unfolding sizesRight
-  header-in =
-      let x = both (leb 28 (headerSize s) && leb (headerSize s) (capsuleImageSize s)) (eqb (capsuleImageSize s) (length s)) right in
-      let y = both (leb 28 (headerSize s)) (leb (headerSize s) (capsuleImageSize s)) x.0 in
-      (leb-true 28 (headerSize s) y.0, omega (arith, leb-true (headerSize s) (capsuleImageSize s) y.1, eqb-true (capsuleImageSize s) (length s) x.1))
+  pub header_in : (28 ≤ header_size s) × (header_size s ≤ length s)
+  unfolding sizes_right
+  header_in =
+      let x = both (leb 28 (header_size s) && leb (header_size s) (capsule_image_size s)) (eqb (capsule_image_size s) (length s)) right in
+      let y = both (leb 28 (header_size s)) (leb (header_size s) (capsule_image_size s)) x.0 in
+      (leb-true 28 (header_size s) y.0, omega (arith, leb-true (header_size s) (capsule_image_size s) y.1, eqb-true (capsule_image_size s) (length s) x.1))
 
   -- CapsuleImageSize is the length
-  pub size-told : capsuleImageSize s ≡ length s
-  unfolding sizesRight
-  size-told =
-      eqb-true (capsuleImageSize s) (length s)
-      (both (leb 28 (headerSize s) && leb (headerSize s) (capsuleImageSize s)) (eqb (capsuleImageSize s) (length s)) right).1
+  pub size_told : capsule_image_size s ≡ length s
+  unfolding sizes_right
+  size_told =
+      eqb-true (capsule_image_size s) (length s)
+      (both (leb 28 (header_size s) && leb (header_size s) (capsule_image_size s)) (eqb (capsule_image_size s) (length s)) right).1
 
   -- the body and the header make the capsule
-  pub body-length : headerSize s + length (body s) ≡ length s
+  pub body_length : header_size s + length (body s) ≡ length s
   unfolding body
-  body-length = omega (arith, length-drop (headerSize s) s, header-in.0, header-in.1)
+  body_length = omega (arith, length-drop (header_size s) s, header_in.0, header_in.1)
 
   -- the body is what is left from its start
-  pub body-rest : take (length s - headerSize s) (drop (headerSize s) s) ≡ body s
+  pub body_rest : take (length s - header_size s) (drop (header_size s) s) ≡ body s
   unfolding body
-  body-rest = take_all (length s - headerSize s) (drop (headerSize s) s) (omega (arith, length-drop (headerSize s) s))
+  body_rest = take_all (length s - header_size s) (drop (header_size s) s) (omega (arith, length-drop (header_size s) s))

@@ -5,22 +5,22 @@ use Rattle.fields.specs.Number.{le}
 use Rattle.fields.specs.Guid.{guid, same}
 
 -- the least length and the fields of a header (C1)
-abbrev pub headerLeast : ℕ
-headerLeast = 28
+abbrev pub header_least : ℕ
+header_least = 28
 
-unfoldable pub headerSize : List ℕ → ℕ
-headerSize s = le 4 s 16
+unfoldable pub header_size : List ℕ → ℕ
+header_size s = le 4 s 16
 
 unfoldable pub flags : List ℕ → ℕ
 flags s = le 4 s 20
 
-unfoldable pub capsuleImageSize : List ℕ → ℕ
-capsuleImageSize s = le 4 s 24
+unfoldable pub capsule_image_size : List ℕ → ℕ
+capsule_image_size s = le 4 s 24
 
 -- HeaderSize at both ends, and CapsuleImageSize against the length given (C2, C3)
-unfoldable pub sizesRight : List ℕ → Bool
-sizesRight s =
-    leb headerLeast (headerSize s) && leb (headerSize s) (capsuleImageSize s) && eqb (capsuleImageSize s) (length s)
+unfoldable pub sizes_right : List ℕ → Bool
+sizes_right s =
+    leb header_least (header_size s) && leb (header_size s) (capsule_image_size s) && eqb (capsule_image_size s) (length s)
 
 -- whether the one bit of mask (a power of 2) is set in f
 abbrev pub is_set : ℕ → ℕ → Bool
@@ -33,17 +33,17 @@ abbrev pub reset : ℕ
 reset = 0x00040000
 
 -- C4: reset needs persist
-unfoldable pub flagsRight : ℕ → Bool
-flagsRight f = not (is_set reset f) || is_set persist f
+unfoldable pub flags_right : ℕ → Bool
+flags_right f = not (is_set reset f) || is_set persist f
 
 -- C5: that of firmware management capsules (UEFI 2.10, 23.3.1)
-abbrev pub fmpGuid : List ℕ
-fmpGuid =
+abbrev pub fmp_guid : List ℕ
+fmp_guid =
     0xed ∷ 0xd5 ∷ 0xcb ∷ 0x6d ∷ 0x2d ∷ 0xe8 ∷ 0x44 ∷ 0x4c ∷ 0xbd ∷ 0xa1 ∷ 0x71 ∷ 0x94 ∷ 0x19 ∷ 0x9a ∷ 0xd9 ∷ 0x2a ∷ []
 
-unfoldable pub guidRight : List ℕ → Bool
-guidRight s = same (guid s 0) fmpGuid
+unfoldable pub guid_right : List ℕ → Bool
+guid_right s = same (guid s 0) fmp_guid
 
 -- C6: from HeaderSize on
 unfoldable pub body : List ℕ → List ℕ
-body s = drop (headerSize s) s
+body s = drop (header_size s) s

@@ -1,7 +1,7 @@
 // The rules on a capsule's own header, and where its body starts (C1 to C6). Each is a function that answers what its
 // definition says.
 ghost use Rattle.std.specs.Prelude.{◌≡◌, true, ◌≤◌, length};
-ghost use Rattle.capsule_header.specs.Header.{sizesRight, flagsRight, guidRight, body};
+ghost use Rattle.capsule_header.specs.Header.{sizes_right, flags_right, guid_right, body};
 
 // C5.
 pub const FMP_GUID: [u8; 16] = [
@@ -11,7 +11,7 @@ pub const FMP_GUID: [u8; 16] = [
 // N11: HeaderSize at both ends, and CapsuleImageSize against the length given.
 pub fn sizes_right(s: &[u8]) -> bool
     requires { 28 ≤ length s.now }
-    ensures { result ≡ sizesRight s.now }
+    ensures { result ≡ sizes_right s.now }
 {
     let header = fields::read32(s, 16);
     let size = fields::read32(s, 24);
@@ -26,7 +26,7 @@ pub fn sizes_right(s: &[u8]) -> bool
 
 // N12: the rule on flags.
 pub fn flags_right(flags: u32) -> bool
-    ensures { result ≡ flagsRight flags }
+    ensures { result ≡ flags_right flags }
 {
     if flags / 0x0004_0000 % 2 != 1 {
         return true;
@@ -37,7 +37,7 @@ pub fn flags_right(flags: u32) -> bool
 // N13: the GUID of firmware management capsules.
 pub fn guid_right(s: &[u8]) -> bool
     requires { 28 ≤ length s.now }
-    ensures { result ≡ guidRight s.now }
+    ensures { result ≡ guid_right s.now }
 {
     let guid = FMP_GUID;
     fields::same_guid(s, 0, &guid, 0)
@@ -45,7 +45,7 @@ pub fn guid_right(s: &[u8]) -> bool
 
 // The body.
 pub fn body_of(s: &[u8]) -> &[u8]
-    requires { sizesRight s.now ≡ true }
+    requires { sizes_right s.now ≡ true }
     ensures { result.now ≡ body s.now }
 {
     let at = fields::read32(s, 16) as usize;

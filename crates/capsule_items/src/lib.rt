@@ -3,17 +3,17 @@
 // refusal it was, or none, for the same capsule and item number. What an item holds is handed out by crate
 // capsule_parts.
 ghost use Rattle.std.specs.Prelude.{◌≡◌};
-ghost use Rattle.refusal_order.specs.Decide.{verdictNumber};
-ghost use Rattle.capsule_check.specs.Verdict.{refusalNumber};
+ghost use Rattle.refusal_order.specs.Decide.{verdict_number};
+ghost use Rattle.capsule_check.specs.Verdict.{refusal_number};
 ghost use Rattle.capsule_check.specs.Item.{located};
 ghost use Rattle.fields.specs.Part.{IsPart, range_of};
-ghost use Rattle.capsule_items.specs.Items.{itemPart};
+ghost use Rattle.capsule_items.specs.Items.{item_part};
 
 use fields::{Span, part_of};
 
 // The sister of all entries that take an item number: the refusal, 10 to 16, or none.
 pub fn refusal(s: &[u8], k: usize) -> refusal_order::Verdict
-    ensures { verdictNumber result ≡ refusalNumber s.now k }
+    ensures { verdict_number result ≡ refusal_number s.now k }
 {
     let found = capsule_check::locate(s, k);
     match found {
@@ -25,7 +25,7 @@ pub fn refusal(s: &[u8], k: usize) -> refusal_order::Verdict
 
 // Where the whole item k lies; with a refusal the empty part at the capsule's start.
 fn item_span(s: &[u8], k: usize) -> Span
-    ensures { range_of result ≡ itemPart (located s.now k) }
+    ensures { range_of result ≡ item_part (located s.now k) }
 {
     let found = capsule_check::locate(s, k);
     match found {
@@ -37,7 +37,7 @@ fn item_span(s: &[u8], k: usize) -> Span
 
 // The whole item k.
 pub fn item(s: &[u8], k: usize) -> &[u8]
-    ensures { IsPart s.entry result (itemPart (located s.now k)) }
+    ensures { IsPart s.entry result (item_part (located s.now k)) }
 {
     let p = item_span(s, k);
     part_of(s, p.start, p.end)

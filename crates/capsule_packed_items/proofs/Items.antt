@@ -7,49 +7,49 @@ use borrow.Author.Tests.{lt-ltb, le-ltb}
 use lib.ListN.{length}
 use Rattle.fields.proofs.Tests.{both}
 use Rattle.capsule_body.specs.Body.{all}
-use Rattle.capsule_body.proofs.Body.{all-at}
-use Rattle.capsule_contents.specs.Contents.{items_of, itemBytes, payloadBytes}
-use Rattle.capsule_contents.specs.Lent.{Lent, contentsOf, driversIn, payloadsIn, rangeAt, start_at, length_at, driverAt, bytes_of}
-use Rattle.capsule_contents.specs.Lent.{payloadGiven}
-use Rattle.capsule_contents.specs.Sizes.{payloadSize, itemSize}
-use Rattle.capsule_packing_rules.specs.Rules.{driverInside, payloadInside, partsInside}
-use Rattle.capsule_packed_items.proofs.Payloads.{told-inside}
+use Rattle.capsule_body.proofs.Body.{all_at}
+use Rattle.capsule_contents.specs.Contents.{items_of, item_bytes, payload_bytes}
+use Rattle.capsule_contents.specs.Lent.{Lent, contents_of, drivers_in, payloads_in, range_at, start_at, length_at, driver_at, bytes_of}
+use Rattle.capsule_contents.specs.Lent.{payload_given}
+use Rattle.capsule_contents.specs.Sizes.{payload_size, item_size}
+use Rattle.capsule_packing_rules.specs.Rules.{driver_inside, payload_inside, parts_inside}
+use Rattle.capsule_packed_items.proofs.Payloads.{told_inside}
 
 module _ (x : Lent) (k : ℕ) where
   -- where it is a driver
-  module _ (low : k < driversIn x.driverTable) where
-    pub driver-bytes : itemBytes (contentsOf x) k ≡ bytes_of x.driverSlice (rangeAt x.driverTable (driverAt k))
-    unfolding itemBytes
-    driver-bytes = rw (lt-ltb k (driversIn x.driverTable) low)
+  module _ (low : k < drivers_in x.driver_table) where
+    pub driver_bytes : item_bytes (contents_of x) k ≡ bytes_of x.driver_slice (range_at x.driver_table (driver_at k))
+    unfolding item_bytes
+    driver_bytes = rw (lt-ltb k (drivers_in x.driver_table) low)
 
-    pub driver-size : itemSize x.driverTable x.payloadTable k ≡ length_at x.driverTable (driverAt k)
-    unfolding itemSize
-    driver-size = rw (lt-ltb k (driversIn x.driverTable) low)
+    pub driver_size : item_size x.driver_table x.payload_table k ≡ length_at x.driver_table (driver_at k)
+    unfolding item_size
+    driver_size = rw (lt-ltb k (drivers_in x.driver_table) low)
 
-    pub driver-inside : partsInside x ≡ true
-        → start_at x.driverTable (driverAt k) + length_at x.driverTable (driverAt k) ≤ length x.driverSlice
-    driver-inside e =
-        let n = driversIn x.driverTable in
-        let test = driverInside x.driverSlice x.driverTable in
-        let t = x.payloadTable in
-        let b = both (all test n) (all (payloadInside x.imageSlice x.vendorCodeSlice t) (payloadsIn t)) e in
-        told-inside x.driverSlice x.driverTable (driverAt k) (all-at test n k b.0 low)
+    pub driver_inside_lem : parts_inside x ≡ true
+        → start_at x.driver_table (driver_at k) + length_at x.driver_table (driver_at k) ≤ length x.driver_slice
+    driver_inside_lem e =
+        let n = drivers_in x.driver_table in
+        let test = driver_inside x.driver_slice x.driver_table in
+        let t = x.payload_table in
+        let b = both (all test n) (all (payload_inside x.image_slice x.vendor_code_slice t) (payloads_in t)) e in
+        told_inside x.driver_slice x.driver_table (driver_at k) (all_at test n k b.0 low)
 
   -- where it is a payload
-  module _ (high : driversIn x.driverTable ≤ k) where
-    pub payload-bytes : itemBytes (contentsOf x) k
-        ≡ payloadBytes (payloadGiven x.imageSlice x.vendorCodeSlice x.payloadTable (k - driversIn x.driverTable))
-    unfolding itemBytes
-    payload-bytes = rw (le-ltb k (driversIn x.driverTable) high)
+  module _ (high : drivers_in x.driver_table ≤ k) where
+    pub payload_bytes_lem : item_bytes (contents_of x) k
+        ≡ payload_bytes (payload_given x.image_slice x.vendor_code_slice x.payload_table (k - drivers_in x.driver_table))
+    unfolding item_bytes
+    payload_bytes_lem = rw (le-ltb k (drivers_in x.driver_table) high)
 
-    pub payload-size : itemSize x.driverTable x.payloadTable k ≡ payloadSize x.payloadTable (k - driversIn x.driverTable)
-    unfolding itemSize
-    payload-size = rw (le-ltb k (driversIn x.driverTable) high)
+    pub payload_size_lem : item_size x.driver_table x.payload_table k ≡ payload_size x.payload_table (k - drivers_in x.driver_table)
+    unfolding item_size
+    payload_size_lem = rw (le-ltb k (drivers_in x.driver_table) high)
 
-    pub payload-inside : partsInside x ≡ true → k < items_of (contentsOf x)
-        → payloadInside x.imageSlice x.vendorCodeSlice x.payloadTable (k - driversIn x.driverTable) ≡ true
-    payload-inside e h =
-        let n = payloadsIn x.payloadTable in
-        let test = payloadInside x.imageSlice x.vendorCodeSlice x.payloadTable in
-        let b = both (all (driverInside x.driverSlice x.driverTable) (driversIn x.driverTable)) (all test n) e in
-        all-at test n (k - driversIn x.driverTable) b.1 (omega arith)
+    pub payload_inside_lem : parts_inside x ≡ true → k < items_of (contents_of x)
+        → payload_inside x.image_slice x.vendor_code_slice x.payload_table (k - drivers_in x.driver_table) ≡ true
+    payload_inside_lem e h =
+        let n = payloads_in x.payload_table in
+        let test = payload_inside x.image_slice x.vendor_code_slice x.payload_table in
+        let b = both (all (driver_inside x.driver_slice x.driver_table) (drivers_in x.driver_table)) (all test n) e in
+        all_at test n (k - drivers_in x.driver_table) b.1 (omega arith)

@@ -3,31 +3,31 @@
 use Rattle.std.specs.Prelude.{ℕ, ◌+◌, ◌*◌, ◌≤◌, ◌<◌, ◌≡◌, true, List, ◌++◌}
 use Rattle.fields.specs.Number.{bytes}
 use Rattle.fields.specs.Joined.{joined}
-use Rattle.capsule_body.specs.Body.{itemLimit}
-use Rattle.capsule_contents.specs.Contents.{headerBytes, items_of, sizeLimit}
-use Rattle.capsule_contents.specs.Lent.{Lent, contentsOf}
-use Rattle.capsule_contents.specs.Sizes.{sizeCap, sum, itemSize}
-use Rattle.capsule_packing_rules.specs.Rules.{partsInside, capsuleSize}
+use Rattle.capsule_body.specs.Body.{item_limit}
+use Rattle.capsule_contents.specs.Contents.{header_bytes, items_of, size_limit}
+use Rattle.capsule_contents.specs.Lent.{Lent, contents_of}
+use Rattle.capsule_contents.specs.Sizes.{size_cap, sum, item_size}
+use Rattle.capsule_packing_rules.specs.Rules.{parts_inside, capsule_size}
 
 -- what comes before the list of offsets
-unfoldable pub frontBytes : (flags size drivers payloads : ℕ) → List ℕ
-frontBytes flags size drivers payloads = headerBytes flags size ++ bytes 4 1 ++ bytes 2 drivers ++ bytes 2 payloads
+unfoldable pub front_bytes : (flags size drivers payloads : ℕ) → List ℕ
+front_bytes flags size drivers payloads = header_bytes flags size ++ bytes 4 1 ++ bytes 2 drivers ++ bytes 2 payloads
 
 -- the list of offsets of so many items, by what the tables tell of their sizes
-unfoldable pub offsetsBytes : (driverTable payloadTable : List ℕ) (items : ℕ) → List ℕ
-offsetsBytes driverTable payloadTable items =
-    joined items (λ k. bytes 8 (8 + 8 * items + sum k (itemSize driverTable payloadTable)))
+unfoldable pub offsets_bytes : (driver_table payload_table : List ℕ) (items : ℕ) → List ℕ
+offsets_bytes driver_table payload_table items =
+    joined items (λ k. bytes 8 (8 + 8 * items + sum k (item_size driver_table payload_table)))
 
 -- item k has its parts in their slices, a size that can be told, and room from `at` on
 pub record ItemReady (x : Lent) (k at room : ℕ) : Type 0 where
-  pub named : k < items_of (contentsOf x)
-  pub parts : partsInside x ≡ true
-  pub small : itemSize x.driverTable x.payloadTable k < sizeCap
-  pub fits : at + itemSize x.driverTable x.payloadTable k ≤ room
+  pub named : k < items_of (contents_of x)
+  pub parts : parts_inside x ≡ true
+  pub small : item_size x.driver_table x.payload_table k < size_cap
+  pub fits : at + item_size x.driver_table x.payload_table k ≤ room
 
 -- what the packer's tests have shown
 pub record Packable (x : Lent) (room : ℕ) : Type 0 where
-  pub few : items_of (contentsOf x) ≤ itemLimit
-  pub parts : partsInside x ≡ true
-  pub small : capsuleSize x ≤ sizeLimit
-  pub fits : capsuleSize x ≤ room
+  pub few : items_of (contents_of x) ≤ item_limit
+  pub parts : parts_inside x ≡ true
+  pub small : capsule_size x ≤ size_limit
+  pub fits : capsule_size x ≤ room

@@ -3,12 +3,12 @@
 ghost use Rattle.std.specs.Prelude.{◌≡◌, true, ◌+◌, ◌*◌, ◌≤◌, ◌<◌, length};
 ghost use Rattle.fields.specs.Number.{put};
 ghost use Rattle.fields.specs.Joined.{joined};
-ghost use Rattle.capsule_body.specs.Body.{itemLimit};
-ghost use Rattle.capsule_contents.specs.Contents.{payloadHeaderBytes, payloadBytes, items_of, itemBytes, capsuleBytes};
-ghost use Rattle.capsule_contents.specs.Lent.{lent, contentsOf, payloadGiven, driversIn, payloadsIn};
-ghost use Rattle.capsule_contents.specs.Sizes.{sizeCap, payloadSize, itemSize, sum};
-ghost use Rattle.capsule_packing_rules.specs.Rules.{payloadInside, capsuleSize};
-ghost use Rattle.capsule_packed_items.specs.Step.{frontBytes, offsetsBytes, ItemReady, Packable};
+ghost use Rattle.capsule_body.specs.Body.{item_limit};
+ghost use Rattle.capsule_contents.specs.Contents.{payload_header_bytes, payload_bytes, items_of, item_bytes, capsule_bytes};
+ghost use Rattle.capsule_contents.specs.Lent.{lent, contents_of, payload_given, drivers_in, payloads_in};
+ghost use Rattle.capsule_contents.specs.Sizes.{size_cap, payload_size, item_size, sum};
+ghost use Rattle.capsule_packing_rules.specs.Rules.{payload_inside, capsule_size};
+ghost use Rattle.capsule_packed_items.specs.Step.{front_bytes, offsets_bytes, ItemReady, Packable};
 
 use capsule_contents::{
     DRIVER_ENTRY, IMAGE_AT, IMAGE_INDEX_AT, INSTANCE_AT, PAYLOAD_ENTRY, TYPE_GUID_AT,
@@ -23,7 +23,7 @@ use fields::{read32, read64};
 // Puts the header, and the body's version and counts.
 fn put_front(flags: u32, size: u32, drivers: u16, payloads: u16, out: &mut [u8])
     requires { 36 ≤ length out.old }
-    ensures { out.new ≡ put out.old 0 (frontBytes flags size drivers payloads) }
+    ensures { out.new ≡ put out.old 0 (front_bytes flags size drivers payloads) }
 {
     let guid = FMP_GUID;
     let four = [28, flags, size, 1];
@@ -35,9 +35,9 @@ fn put_front(flags: u32, size: u32, drivers: u16, payloads: u16, out: &mut [u8])
 
 // Puts the offsets of all items, each behind the one before.
 fn put_offsets(driver_table: &[u8], payload_table: &[u8], items: usize, out: &mut [u8])
-    requires { (items ≡ driversIn driver_table.now + payloadsIn payload_table.now) × (items ≤ itemLimit)
-        × (sum items (itemSize driver_table.now payload_table.now) < sizeCap) × (36 + 8 * items ≤ length out.old) }
-    ensures { out.new ≡ put out.old 36 (offsetsBytes driver_table.now payload_table.now items) }
+    requires { (items ≡ drivers_in driver_table.now + payloads_in payload_table.now) × (items ≤ item_limit)
+        × (sum items (item_size driver_table.now payload_table.now) < size_cap) × (36 + 8 * items ≤ length out.old) }
+    ensures { out.new ≡ put out.old 36 (offsets_bytes driver_table.now payload_table.now items) }
 {
     let mut offset = 8 + 8 * items;
     let mut k = 0;
@@ -58,10 +58,10 @@ fn put_payload_header(
     at: usize,
     out: &mut [u8],
 )
-    requires { (j < payloadsIn table.now) × (payloadInside images.now codes.now table.now j ≡ true)
-        × (payloadSize table.now j < sizeCap) × (at + payloadSize table.now j ≤ length out.old) }
+    requires { (j < payloads_in table.now) × (payload_inside images.now codes.now table.now j ≡ true)
+        × (payload_size table.now j < size_cap) × (at + payload_size table.now j ≤ length out.old) }
     ensures { out.new ≡ put out.old at
-        (payloadHeaderBytes (payloadGiven images.now codes.now table.now j)) }
+        (payload_header_bytes (payload_given images.now codes.now table.now j)) }
 {
     let entry = PAYLOAD_ENTRY * j;
     let version = read32(table, entry);
@@ -82,10 +82,10 @@ fn put_payload_header(
 
 // Puts payload j at `at`: header, image, vendor code.
 fn put_payload(images: &[u8], codes: &[u8], table: &[u8], j: usize, at: usize, out: &mut [u8])
-    requires { (j < payloadsIn table.now) × (payloadInside images.now codes.now table.now j ≡ true)
-        × (payloadSize table.now j < sizeCap) × (at + payloadSize table.now j ≤ length out.old) }
+    requires { (j < payloads_in table.now) × (payload_inside images.now codes.now table.now j ≡ true)
+        × (payload_size table.now j < size_cap) × (at + payload_size table.now j ≤ length out.old) }
     ensures { out.new ≡ put out.old at
-        (payloadBytes (payloadGiven images.now codes.now table.now j)) }
+        (payload_bytes (payload_given images.now codes.now table.now j)) }
 {
     let entry = PAYLOAD_ENTRY * j;
     let image = read64(table, entry + IMAGE_AT + 8) as usize;
@@ -121,7 +121,7 @@ fn put_item(
 )
     requires { ItemReady (lent 0 drivers.now driver_table.now images.now codes.now payload_table.now)
         k at (length out.old) }
-    ensures { out.new ≡ put out.old at (itemBytes (contentsOf (lent 0 drivers.now
+    ensures { out.new ≡ put out.old at (item_bytes (contents_of (lent 0 drivers.now
         driver_table.now images.now codes.now payload_table.now)) k) }
 {
     let first = driver_table.len() / DRIVER_ENTRY;
@@ -149,9 +149,9 @@ fn put_items(
     items: usize,
     out: &mut [u8],
 )
-    requires { (items ≡ driversIn driver_table.now + payloadsIn payload_table.now)
+    requires { (items ≡ drivers_in driver_table.now + payloads_in payload_table.now)
         × Packable (lent 0 drivers.now driver_table.now images.now codes.now payload_table.now) (length out.old) }
-    ensures { out.new ≡ put out.old (36 + 8 * items) (joined items (itemBytes (contentsOf
+    ensures { out.new ≡ put out.old (36 + 8 * items) (joined items (item_bytes (contents_of
         (lent 0 drivers.now driver_table.now images.now codes.now
         payload_table.now)))) }
 {
@@ -184,9 +184,9 @@ pub fn put_capsule(
     size: usize,
     out: &mut [u8],
 )
-    requires { (size ≡ capsuleSize (lent flags drivers.now driver_table.now images.now codes.now payload_table.now))
+    requires { (size ≡ capsule_size (lent flags drivers.now driver_table.now images.now codes.now payload_table.now))
         × Packable (lent flags drivers.now driver_table.now images.now codes.now payload_table.now) (length out.old) }
-    ensures { out.new ≡ put out.old 0 (capsuleBytes (contentsOf (lent flags drivers.now
+    ensures { out.new ≡ put out.old 0 (capsule_bytes (contents_of (lent flags drivers.now
         driver_table.now images.now codes.now payload_table.now))) }
 {
     let first = driver_table.len() / DRIVER_ENTRY;

@@ -4,23 +4,23 @@ use Rattle.std.specs.Prelude.{ℕ, List, [], ◌∷◌, ◌++◌, ltb, length}
 use Rattle.fields.specs.Number.{put}
 use Rattle.refusals.specs.declared.Refusal.TheVariants.{PackRoom}
 use Rattle.refusal_order.specs.Decide.{Decision, passed, refusal, Test, decide, Reply, gives, refuses}
-use Rattle.capsule_contents.specs.Contents.{capsuleBytes}
-use Rattle.capsule_contents.specs.Lent.{Lent, contentsOf}
-use Rattle.capsule_packing_rules.specs.Rules.{capsuleSize, sizeTests}
+use Rattle.capsule_contents.specs.Contents.{capsule_bytes}
+use Rattle.capsule_contents.specs.Lent.{Lent, contents_of}
+use Rattle.capsule_packing_rules.specs.Rules.{capsule_size, size_tests}
 
 -- N57: the output slice is shorter than the capsule
-abbrev pub roomTest : Lent → (room : ℕ) → Test
-roomTest x room = (ltb room (capsuleSize x), PackRoom)
+abbrev pub room_test : Lent → (room : ℕ) → Test
+room_test x room = (ltb room (capsule_size x), PackRoom)
 
 -- 50 to 57, by number
-unfoldable pub packerTests : Lent → (room : ℕ) → List Test
-packerTests x room = sizeTests x ++ (roomTest x room ∷ [])
+unfoldable pub packer_tests : Lent → (room : ℕ) → List Test
+packer_tests x room = size_tests x ++ (room_test x room ∷ [])
 
 -- C32: how many bytes were written, and the output slice afterwards: the capsule at its front, every byte past it as it
 -- was; with a refusal every byte
-unfoldable pub packedBy : Decision → (capsule out : List ℕ) → Reply ℕ × List ℕ
-packedBy passed capsule out = (gives (length capsule), put out 0 capsule)
-packedBy (refusal number values) capsule out = (refuses number values, out)
+unfoldable pub packed_by : Decision → (capsule out : List ℕ) → Reply ℕ × List ℕ
+packed_by passed capsule out = (gives (length capsule), put out 0 capsule)
+packed_by (refusal number values) capsule out = (refuses number values, out)
 
 unfoldable pub packed : Lent → (out : List ℕ) → Reply ℕ × List ℕ
-packed x out = packedBy (decide (packerTests x (length out))) (capsuleBytes (contentsOf x)) out
+packed x out = packed_by (decide (packer_tests x (length out))) (capsule_bytes (contents_of x)) out

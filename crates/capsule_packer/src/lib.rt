@@ -2,7 +2,7 @@
 // Refusals 50 to 57.
 ghost use Rattle.std.specs.Prelude.{◌≡◌};
 ghost use Rattle.capsule_contents.specs.Lent.{lent};
-ghost use Rattle.capsule_packing_rules.specs.Rules.{packedReply};
+ghost use Rattle.capsule_packing_rules.specs.Rules.{packed_reply};
 ghost use Rattle.capsule_packer.specs.Packer.{packed};
 
 use capsule_packed_items::put_capsule;
@@ -22,7 +22,7 @@ pub fn pack(
     payload_table: &[u8],
     out: &mut [u8],
 ) -> Packed
-    ensures { (packedReply result, out.new) ≡ packed (lent flags drivers.now driver_table.now
+    ensures { (packed_reply result, out.new) ≡ packed (lent flags drivers.now driver_table.now
         images.now codes.now payload_table.now) out.old }
 {
     let sized = packed_size(flags, drivers, driver_table, images, codes, payload_table);

@@ -4,7 +4,7 @@ use mathlib.Core.Bool.{Bool, true, false}
 use Prim.Native.Nat.{ℕ, ◌+◌, ◌≤◌, ◌<◌}
 use native.Mathlib.Omega.{arith}
 use Rattle.capsule_body.specs.Body.{all}
-use Rattle.capsule_body.proofs.Body.{all_none, all_more, all-fails, all_whole}
+use Rattle.capsule_body.proofs.Body.{all_none, all_more, all_fails, all_whole}
 
 pub record Passed (test : ℕ → Bool) (n k : ℕ) : Type 0 where
   pub low : k ≤ n
@@ -13,11 +13,11 @@ pub record Passed (test : ℕ → Bool) (n k : ℕ) : Type 0 where
 pub passed_none : {test : ℕ → Bool} {n : ℕ} → Passed test n 0
 passed_none {test} = record { low = omega arith; held = all_none test }
 
-pub passed-more : {test : ℕ → Bool} {n k : ℕ} → Passed test n k → k < n → test k ≡ true → Passed test n (k + 1)
-passed-more {test} {n} {k} p h e = record { low = omega arith; held = all_more test k p.held e }
+pub passed_more : {test : ℕ → Bool} {n k : ℕ} → Passed test n k → k < n → test k ≡ true → Passed test n (k + 1)
+passed_more {test} {n} {k} p h e = record { low = omega arith; held = all_more test k p.held e }
 
-pub passed-stop : {test : ℕ → Bool} {n k : ℕ} → Passed test n k → k < n → test k ≡ false → false ≡ all test n
-passed-stop {test} {n} {k} p h e = sym (all-fails test n k h e)
+pub passed_stop : {test : ℕ → Bool} {n k : ℕ} → Passed test n k → k < n → test k ≡ false → false ≡ all test n
+passed_stop {test} {n} {k} p h e = sym (all_fails test n k h e)
 
-pub passed-all : {test : ℕ → Bool} {n k : ℕ} → Passed test n k → n ≤ k → true ≡ all test n
-passed-all {test} {n} {k} p h = all_whole test k n p.held (omega (arith, p.low))
+pub passed_all : {test : ℕ → Bool} {n k : ℕ} → Passed test n k → n ≤ k → true ≡ all test n
+passed_all {test} {n} {k} p h = all_whole test k n p.held (omega (arith, p.low))

@@ -8,70 +8,70 @@ use borrow.Author.Tests.{leb-true, ltb-true, ltb-false}
 use lib.Dec.{ltb}
 use lib.ListN.{length}
 use Rattle.fields.proofs.Tests.{both}
-use Rattle.fields.proofs.Guid.{guid-whole}
+use Rattle.fields.proofs.Guid.{guid_whole}
 use Rattle.fields.proofs.Part.{part_length}
 use Rattle.capsule_body.specs.Body.{all}
-use Rattle.capsule_body.proofs.Body.{all-at}
-use Rattle.capsule_contents.specs.Contents.{items_of, itemBytes, payloadBytes}
-use Rattle.capsule_contents.specs.Lent.{Lent, contentsOf, driversIn, payloadsIn, rangeAt, length_at, bytes_of}
-use Rattle.capsule_contents.specs.Lent.{driverAt, payloadAt, imageAt, vendorCodeAt, payloadGiven}
-use Rattle.capsule_contents.specs.Sizes.{payloadSize, itemSize, sum}
-use Rattle.capsule_contents.proofs.Lengths.{joined-sum, payload-length, body-length, capsule-length}
-use Rattle.capsule_packing_rules.specs.Rules.{inside, driverInside, payloadInside, partsInside, capsuleSize}
+use Rattle.capsule_body.proofs.Body.{all_at}
+use Rattle.capsule_contents.specs.Contents.{items_of, item_bytes, payload_bytes}
+use Rattle.capsule_contents.specs.Lent.{Lent, contents_of, drivers_in, payloads_in, range_at, length_at, bytes_of}
+use Rattle.capsule_contents.specs.Lent.{driver_at, payload_at, image_at, vendor_code_at, payload_given}
+use Rattle.capsule_contents.specs.Sizes.{payload_size, item_size, sum}
+use Rattle.capsule_contents.proofs.Lengths.{joined_sum, payload_length, body_length, capsule_length}
+use Rattle.capsule_packing_rules.specs.Rules.{inside, driver_inside, payload_inside, parts_inside, capsule_size}
 
 -- a part that lies in its slice is as long as it is told
-pub told-length : (slice table : List ℕ) (at : ℕ) → inside slice (rangeAt table at) ≡ true
-    → length (bytes_of slice (rangeAt table at)) ≡ length_at table at
-told-length slice table at e =
-    let r = rangeAt table at in
+pub told_length : (slice table : List ℕ) (at : ℕ) → inside slice (range_at table at) ≡ true
+    → length (bytes_of slice (range_at table at)) ≡ length_at table at
+told_length slice table at e =
+    let r = range_at table at in
     part_length slice r.start r.end (leb-true r.end (length slice) e) ∙ omega arith
 
-module _ (x : Lent) (within : partsInside x ≡ true) where
-  sides : (all (driverInside x.driverSlice x.driverTable) (driversIn x.driverTable) ≡ true)
-      × (all (payloadInside x.imageSlice x.vendorCodeSlice x.payloadTable) (payloadsIn x.payloadTable) ≡ true)
+module _ (x : Lent) (within : parts_inside x ≡ true) where
+  sides : (all (driver_inside x.driver_slice x.driver_table) (drivers_in x.driver_table) ≡ true)
+      × (all (payload_inside x.image_slice x.vendor_code_slice x.payload_table) (payloads_in x.payload_table) ≡ true)
   sides =
-      both (all (driverInside x.driverSlice x.driverTable) (driversIn x.driverTable))
-      (all (payloadInside x.imageSlice x.vendorCodeSlice x.payloadTable) (payloadsIn x.payloadTable)) within
+      both (all (driver_inside x.driver_slice x.driver_table) (drivers_in x.driver_table))
+      (all (payload_inside x.image_slice x.vendor_code_slice x.payload_table) (payloads_in x.payload_table)) within
 
-  driver-length : (k : ℕ) → k < driversIn x.driverTable → length ((contentsOf x).driver k) ≡ length_at x.driverTable (driverAt k)
-  driver-length k h =
-      told-length x.driverSlice x.driverTable (driverAt k)
-      (all-at (driverInside x.driverSlice x.driverTable) (driversIn x.driverTable) k sides.0 h)
+  driver_length : (k : ℕ) → k < drivers_in x.driver_table → length ((contents_of x).driver k) ≡ length_at x.driver_table (driver_at k)
+  driver_length k h =
+      told_length x.driver_slice x.driver_table (driver_at k)
+      (all_at (driver_inside x.driver_slice x.driver_table) (drivers_in x.driver_table) k sides.0 h)
 
-  payload-long : (j : ℕ) → j < payloadsIn x.payloadTable
-      → length (payloadBytes ((contentsOf x).payload j)) ≡ payloadSize x.payloadTable j
-  unfolding payloadSize
-  payload-long j h =
-      let t = x.payloadTable in
+  payload_long : (j : ℕ) → j < payloads_in x.payload_table
+      → length (payload_bytes ((contents_of x).payload j)) ≡ payload_size x.payload_table j
+  unfolding payload_size
+  payload_long j h =
+      let t = x.payload_table in
       let in_both =
-      both (inside x.imageSlice (rangeAt t (imageAt j))) (inside x.vendorCodeSlice (rangeAt t (vendorCodeAt j)))
-      (all-at (payloadInside x.imageSlice x.vendorCodeSlice t) (payloadsIn t) j sides.1 h) in
-      payload-length (payloadGiven x.imageSlice x.vendorCodeSlice t j) (guid-whole t (payloadAt j + 4) (omega arith))
-      ∙ rw (told-length x.imageSlice t (imageAt j) in_both.0, told-length x.vendorCodeSlice t (vendorCodeAt j) in_both.1)
+      both (inside x.image_slice (range_at t (image_at j))) (inside x.vendor_code_slice (range_at t (vendor_code_at j)))
+      (all_at (payload_inside x.image_slice x.vendor_code_slice t) (payloads_in t) j sides.1 h) in
+      payload_length (payload_given x.image_slice x.vendor_code_slice t j) (guid_whole t (payload_at j + 4) (omega arith))
+      ∙ rw (told_length x.image_slice t (image_at j) in_both.0, told_length x.vendor_code_slice t (vendor_code_at j) in_both.1)
 
   -- an item's length
-  pub item-length : (k : ℕ) → k < items_of (contentsOf x)
-      → length (itemBytes (contentsOf x) k) ≡ itemSize x.driverTable x.payloadTable k
-  unfolding itemBytes itemSize
-  item-length k h = go (ltb k (driversIn x.driverTable)) refl
+  pub item_length : (k : ℕ) → k < items_of (contents_of x)
+      → length (item_bytes (contents_of x) k) ≡ item_size x.driver_table x.payload_table k
+  unfolding item_bytes item_size
+  item_length k h = go (ltb k (drivers_in x.driver_table)) refl
     where
       j : ℕ
-      j = k - driversIn x.driverTable
+      j = k - drivers_in x.driver_table
 
-      go : (t : Bool) → ltb k (driversIn x.driverTable) ≡ t
-          → length (cond t ((contentsOf x).driver k) (payloadBytes ((contentsOf x).payload j)))
-          ≡ cond t (length_at x.driverTable (driverAt k)) (payloadSize x.payloadTable j)
-      go true e = driver-length k (ltb-true k (driversIn x.driverTable) e)
-      go false e = payload-long j (omega (arith, ltb-false k (driversIn x.driverTable) e))
+      go : (t : Bool) → ltb k (drivers_in x.driver_table) ≡ t
+          → length (cond t ((contents_of x).driver k) (payload_bytes ((contents_of x).payload j)))
+          ≡ cond t (length_at x.driver_table (driver_at k)) (payload_size x.payload_table j)
+      go true e = driver_length k (ltb-true k (drivers_in x.driver_table) e)
+      go false e = payload_long j (omega (arith, ltb-false k (drivers_in x.driver_table) e))
 
   -- and the capsule's
-  pub packed-size-is : capsuleSize x
-      ≡ 36 + 8 * items_of (contentsOf x) + sum (items_of (contentsOf x)) (itemSize x.driverTable x.payloadTable)
-  packed-size-is =
-      let c = contentsOf x in
+  pub packed_size_is : capsule_size x
+      ≡ 36 + 8 * items_of (contents_of x) + sum (items_of (contents_of x)) (item_size x.driver_table x.payload_table)
+  packed_size_is =
+      let c = contents_of x in
       omega (
         arith,
-        capsule-length c,
-        body-length c,
-        joined-sum (items_of c) (itemBytes c) (itemSize x.driverTable x.payloadTable) item-length,
+        capsule_length c,
+        body_length c,
+        joined_sum (items_of c) (item_bytes c) (item_size x.driver_table x.payload_table) item_length,
       )

@@ -1,11 +1,11 @@
 // The packer's tests 50 to 56, and the size of the capsule that would be packed.
 ghost use Rattle.std.specs.Prelude.{◌≡◌, ◌+◌, ◌<◌};
-ghost use Rattle.refusal_order.specs.Decide.{decide, decisionOf};
+ghost use Rattle.refusal_order.specs.Decide.{decide, decision_of};
 ghost use Rattle.capsule_body.specs.Body.{all};
-ghost use Rattle.capsule_contents.specs.Lent.{lent, driversIn, payloadsIn};
-ghost use Rattle.capsule_contents.specs.Sizes.{cap, itemSize, sum};
-ghost use Rattle.capsule_packing_rules.specs.Rules.{driverInside, payloadInside, driverFilled, versionAtRight, instanceRight};
-ghost use Rattle.capsule_packing_rules.specs.Rules.{contentsTests, packedReply, sized};
+ghost use Rattle.capsule_contents.specs.Lent.{lent, drivers_in, payloads_in};
+ghost use Rattle.capsule_contents.specs.Sizes.{cap, item_size, sum};
+ghost use Rattle.capsule_packing_rules.specs.Rules.{driver_inside, payload_inside, driver_filled, version_at_right, instance_right};
+ghost use Rattle.capsule_packing_rules.specs.Rules.{contents_tests, packed_reply, sized};
 
 use capsule_body::ITEM_LIMIT;
 use capsule_contents::{
@@ -30,7 +30,7 @@ pub enum Packed {
 
 // N51, for the drivers.
 fn drivers_inside(drivers: &[u8], table: &[u8]) -> bool
-    ensures { result ≡ all (driverInside drivers.now table.now) (driversIn table.now) }
+    ensures { result ≡ all (driver_inside drivers.now table.now) (drivers_in table.now) }
 {
     let count = table.len() / DRIVER_ENTRY;
     let mut k = 0;
@@ -45,8 +45,8 @@ fn drivers_inside(drivers: &[u8], table: &[u8]) -> bool
 
 // N51, for images and vendor codes.
 fn payloads_inside(images: &[u8], codes: &[u8], table: &[u8]) -> bool
-    ensures { result ≡ all (payloadInside images.now codes.now table.now)
-        (payloadsIn table.now) }
+    ensures { result ≡ all (payload_inside images.now codes.now table.now)
+        (payloads_in table.now) }
 {
     let count = table.len() / PAYLOAD_ENTRY;
     let mut j = 0;
@@ -64,7 +64,7 @@ fn payloads_inside(images: &[u8], codes: &[u8], table: &[u8]) -> bool
 
 // N52.
 fn drivers_filled(table: &[u8]) -> bool
-    ensures { result ≡ all (driverFilled table.now) (driversIn table.now) }
+    ensures { result ≡ all (driver_filled table.now) (drivers_in table.now) }
 {
     let count = table.len() / DRIVER_ENTRY;
     let mut k = 0;
@@ -79,7 +79,7 @@ fn drivers_filled(table: &[u8]) -> bool
 
 // N53.
 fn versions_right(table: &[u8]) -> bool
-    ensures { result ≡ all (versionAtRight table.now) (payloadsIn table.now) }
+    ensures { result ≡ all (version_at_right table.now) (payloads_in table.now) }
 {
     let count = table.len() / PAYLOAD_ENTRY;
     let mut j = 0;
@@ -94,8 +94,8 @@ fn versions_right(table: &[u8]) -> bool
 
 // N54, for one payload.
 fn instance_right(table: &[u8], j: usize) -> bool
-    requires { j < payloadsIn table.now }
-    ensures { result ≡ instanceRight table.now j }
+    requires { j < payloads_in table.now }
+    ensures { result ≡ instance_right table.now j }
 {
     if read32(table, PAYLOAD_ENTRY * j) != 1 {
         return true;
@@ -105,7 +105,7 @@ fn instance_right(table: &[u8], j: usize) -> bool
 
 // N54.
 fn instances_right(table: &[u8]) -> bool
-    ensures { result ≡ all (instanceRight table.now) (payloadsIn table.now) }
+    ensures { result ≡ all (instance_right table.now) (payloads_in table.now) }
 {
     let count = table.len() / PAYLOAD_ENTRY;
     let mut j = 0;
@@ -120,8 +120,8 @@ fn instances_right(table: &[u8]) -> bool
 
 // The sum of the items' sizes, or the cap.
 fn items_size(driver_table: &[u8], payload_table: &[u8]) -> usize
-    ensures { result ≡ cap (sum (driversIn driver_table.now + payloadsIn payload_table.now)
-        (itemSize driver_table.now payload_table.now)) }
+    ensures { result ≡ cap (sum (drivers_in driver_table.now + payloads_in payload_table.now)
+        (item_size driver_table.now payload_table.now)) }
 {
     let items = driver_table.len() / DRIVER_ENTRY + payload_table.len() / PAYLOAD_ENTRY;
     let mut total = 0;
@@ -142,7 +142,7 @@ fn admit(
     codes: &[u8],
     payload_table: &[u8],
 ) -> Verdict
-    ensures { decisionOf result ≡ decide (contentsTests (lent flags drivers.now driver_table.now
+    ensures { decision_of result ≡ decide (contents_tests (lent flags drivers.now driver_table.now
         images.now codes.now payload_table.now)) }
 {
     if ITEM_LIMIT < driver_table.len() / DRIVER_ENTRY + payload_table.len() / PAYLOAD_ENTRY {
@@ -179,7 +179,7 @@ pub fn packed_size(
     codes: &[u8],
     payload_table: &[u8],
 ) -> Packed
-    ensures { packedReply result ≡ sized (lent flags drivers.now driver_table.now images.now
+    ensures { packed_reply result ≡ sized (lent flags drivers.now driver_table.now images.now
         codes.now payload_table.now) }
 {
     let verdict = admit(flags, drivers, driver_table, images, codes, payload_table);

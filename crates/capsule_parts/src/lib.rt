@@ -2,11 +2,11 @@
 // first and have no condition: a refused one answers the empty part at the capsule's start, and
 // `capsule_items::refusal` says which refusal it was.
 ghost use Rattle.std.specs.Prelude.{◌≡◌, true, ◌+◌, ◌^◌, ◌<◌, length};
-ghost use Rattle.capsule_payloads.specs.Payload.{imageStart, imageEnd, vendorCodeEnd, payloadRight};
-ghost use Rattle.capsule_check.specs.Verdict.{itemVerdict};
+ghost use Rattle.capsule_payloads.specs.Payload.{image_start, image_end, vendor_code_end, payload_right};
+ghost use Rattle.capsule_check.specs.Verdict.{item_verdict};
 ghost use Rattle.capsule_check.specs.Item.{located};
 ghost use Rattle.fields.specs.Part.{IsPart};
-ghost use Rattle.capsule_parts.specs.Parts.{imagePart, vendorCodePart, imageTold, vendorCodeTold};
+ghost use Rattle.capsule_parts.specs.Parts.{image_part, vendor_code_part, image_told, vendor_code_told};
 
 use capsule_check::Item;
 use fields::part_of;
@@ -24,9 +24,9 @@ pub struct Places {
 
 // Those of a payload p that stands at `at`.
 fn payload_places(p: &[u8], at: usize) -> Places
-    requires { (payloadRight p.now ≡ true) × (at + length p.now < 2 ^ 64) }
-    ensures { (result.image ≡ at + imageStart p.now) × (result.code ≡ at + imageEnd p.now)
-        × (result.end ≡ at + vendorCodeEnd p.now) × (result.verdict ≡ Verdict.Passed) }
+    requires { (payload_right p.now ≡ true) × (at + length p.now < 2 ^ 64) }
+    ensures { (result.image ≡ at + image_start p.now) × (result.code ≡ at + image_end p.now)
+        × (result.end ≡ at + vendor_code_end p.now) × (result.verdict ≡ Verdict.Passed) }
 {
     let image = at + capsule_payloads::header_length(fields::read32(p, 0));
     let code = image + (fields::read32(p, 24) as usize);
@@ -42,9 +42,9 @@ fn payload_places(p: &[u8], at: usize) -> Places
 // Those of item k: a driver's image is its whole item, its vendor code is empty. It serves c_image and c_vendor_code
 // too, which tell starts and lengths in numbers.
 pub fn places_of(s: &[u8], k: usize) -> Places
-    ensures { (imageTold result ≡ imagePart s.now (located s.now k))
-        × (vendorCodeTold result ≡ vendorCodePart s.now (located s.now k))
-        × (result.verdict ≡ itemVerdict s.now k) }
+    ensures { (image_told result ≡ image_part s.now (located s.now k))
+        × (vendor_code_told result ≡ vendor_code_part s.now (located s.now k))
+        × (result.verdict ≡ item_verdict s.now k) }
 {
     let found = capsule_check::locate(s, k);
     match found {
@@ -66,7 +66,7 @@ pub fn places_of(s: &[u8], k: usize) -> Places
 
 // The image of item k: a payload's image, and the whole item of a driver.
 pub fn image(s: &[u8], k: usize) -> &[u8]
-    ensures { IsPart s.entry result (imagePart s.now (located s.now k)) }
+    ensures { IsPart s.entry result (image_part s.now (located s.now k)) }
 {
     let p = places_of(s, k);
     part_of(s, p.image, p.code)
@@ -74,7 +74,7 @@ pub fn image(s: &[u8], k: usize) -> &[u8]
 
 // The vendor code of item k: a driver has an empty one at its end.
 pub fn vendor_code(s: &[u8], k: usize) -> &[u8]
-    ensures { IsPart s.entry result (vendorCodePart s.now (located s.now k)) }
+    ensures { IsPart s.entry result (vendor_code_part s.now (located s.now k)) }
 {
     let p = places_of(s, k);
     part_of(s, p.code, p.end)

@@ -1,14 +1,14 @@
 // The rules on a capsule's payload headers (C14 to C16). Each is a function that answers what its definition says. No
 // byte of an image is read.
 ghost use Rattle.std.specs.Prelude.{◌≡◌, true};
-ghost use Rattle.capsule_body.specs.Body.{bodyRight};
-ghost use Rattle.capsule_payloads.specs.Payload.{versionRight, headerLength, payloadRight, payloadsRight};
+ghost use Rattle.capsule_body.specs.Body.{body_right};
+ghost use Rattle.capsule_payloads.specs.Payload.{version_right, header_length, payload_right, payloads_right};
 
 use capsule_body::item_bytes;
 
 // Whether a payload header has this version.
 pub fn version_right(version: u32) -> bool
-    ensures { result ≡ versionRight version }
+    ensures { result ≡ version_right version }
 {
     if version == 1 {
         return true;
@@ -18,7 +18,7 @@ pub fn version_right(version: u32) -> bool
 
 // The length of a payload header of this version, where the version is 1 or 2.
 pub fn header_length(version: u32) -> usize
-    ensures { result ≡ headerLength version }
+    ensures { result ≡ header_length version }
 {
     if version == 1 {
         return 32;
@@ -29,7 +29,7 @@ pub fn header_length(version: u32) -> usize
 // N15, for one item: the header's version, and that header, image and vendor code fit. Both sizes are widened before
 // they are added.
 pub fn payload_right(p: &[u8]) -> bool
-    ensures { result ≡ payloadRight p.now }
+    ensures { result ≡ payload_right p.now }
 {
     if p.len() < 32 {
         return false;
@@ -45,8 +45,8 @@ pub fn payload_right(p: &[u8]) -> bool
 
 // All payloads of a right body: N15.
 pub fn payloads_right(b: &[u8]) -> bool
-    requires { bodyRight b.now ≡ true }
-    ensures { result ≡ payloadsRight b.now }
+    requires { body_right b.now ≡ true }
+    ensures { result ≡ payloads_right b.now }
 {
     let first = fields::read16(b, 4) as usize;
     let count = fields::read16(b, 6) as usize;

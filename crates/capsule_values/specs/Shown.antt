@@ -2,7 +2,7 @@
 -- nothing.
 use Rattle.std.specs.Prelude.{ℕ, List, replicate}
 use Rattle.fields.specs.Part.{part}
-use Rattle.capsule_payloads.specs.Payload.{typeGuid, imageIndex, hardwareInstance}
+use Rattle.capsule_payloads.specs.Payload.{type_guid, image_index, hardware_instance}
 use Rattle.capsule_check.specs.declared.Item.{Item}
 use Rattle.capsule_check.specs.declared.Item.TheVariants.{Driver, Payload, Refused}
 
@@ -12,11 +12,11 @@ shown f zeros s (Driver a e) = zeros
 shown f zeros s (Payload a e) = f (part s a e)
 shown f zeros s (Refused r) = zeros
 
-abbrev pub typeGuidOf : List ℕ → Item → List ℕ
-typeGuidOf s i = shown typeGuid (replicate 16 0) s i
+abbrev pub type_guid_of : List ℕ → Item → List ℕ
+type_guid_of s i = shown type_guid (replicate 16 0) s i
 
-abbrev pub imageIndexOf : List ℕ → Item → ℕ
-imageIndexOf s i = shown imageIndex 0 s i
+abbrev pub image_index_of : List ℕ → Item → ℕ
+image_index_of s i = shown image_index 0 s i
 
-abbrev pub hardwareInstanceOf : List ℕ → Item → ℕ
-hardwareInstanceOf s i = shown hardwareInstance 0 s i
+abbrev pub hardware_instance_of : List ℕ → Item → ℕ
+hardware_instance_of s i = shown hardware_instance 0 s i

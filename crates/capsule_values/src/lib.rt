@@ -2,10 +2,10 @@
 // whole capsule first and has no condition: a refused one answers 0 or zeros, and `capsule_items::refusal` says which
 // refusal it was.
 ghost use Rattle.std.specs.Prelude.{◌≡◌, true, replicate};
-ghost use Rattle.capsule_payloads.specs.Payload.{payloadRight, typeGuid, imageIndex, hardwareInstance};
-ghost use Rattle.capsule_check.specs.Verdict.{itemVerdict};
+ghost use Rattle.capsule_payloads.specs.Payload.{payload_right, type_guid, image_index, hardware_instance};
+ghost use Rattle.capsule_check.specs.Verdict.{item_verdict};
 ghost use Rattle.capsule_check.specs.Item.{located};
-ghost use Rattle.capsule_values.specs.Shown.{typeGuidOf, imageIndexOf, hardwareInstanceOf};
+ghost use Rattle.capsule_values.specs.Shown.{type_guid_of, image_index_of, hardware_instance_of};
 
 use capsule_check::Item;
 use refusal_order::Verdict;
@@ -21,8 +21,8 @@ pub struct Values {
 
 // Version 1 has no hardware instance and shows 0.
 fn instance_of(p: &[u8]) -> u64
-    requires { payloadRight p.now ≡ true }
-    ensures { result ≡ hardwareInstance p.now }
+    requires { payload_right p.now ≡ true }
+    ensures { result ≡ hardware_instance p.now }
 {
     if fields::read32(p, 0) == 1 {
         return 0;
@@ -32,9 +32,9 @@ fn instance_of(p: &[u8]) -> u64
 
 // Those of a payload p.
 fn payload_values(p: &[u8]) -> Values
-    requires { payloadRight p.now ≡ true }
-    ensures { (result.verdict ≡ Verdict.Passed) × (result.guid ≡ typeGuid p.now)
-        × (result.index ≡ imageIndex p.now) × (result.instance ≡ hardwareInstance p.now) }
+    requires { payload_right p.now ≡ true }
+    ensures { (result.verdict ≡ Verdict.Passed) × (result.guid ≡ type_guid p.now)
+        × (result.index ≡ image_index p.now) × (result.instance ≡ hardware_instance p.now) }
 {
     let guid = fields::read_guid(p, 4);
     let index = p[20];
@@ -62,10 +62,10 @@ fn zeros(verdict: Verdict) -> Values
 
 // Those of item k. It serves c_values too.
 pub fn values_of(s: &[u8], k: usize) -> Values
-    ensures { (result.verdict ≡ itemVerdict s.now k)
-        × (result.guid ≡ typeGuidOf s.now (located s.now k))
-        × (result.index ≡ imageIndexOf s.now (located s.now k))
-        × (result.instance ≡ hardwareInstanceOf s.now (located s.now k)) }
+    ensures { (result.verdict ≡ item_verdict s.now k)
+        × (result.guid ≡ type_guid_of s.now (located s.now k))
+        × (result.index ≡ image_index_of s.now (located s.now k))
+        × (result.instance ≡ hardware_instance_of s.now (located s.now k)) }
 {
     let found = capsule_check::locate(s, k);
     match found {
@@ -77,21 +77,21 @@ pub fn values_of(s: &[u8], k: usize) -> Values
 
 // The type GUID of payload item k.
 pub fn type_guid(s: &[u8], k: usize) -> [u8; 16]
-    ensures { result ≡ typeGuidOf s.now (located s.now k) }
+    ensures { result ≡ type_guid_of s.now (located s.now k) }
 {
     values_of(s, k).guid
 }
 
 // The image index of payload item k.
 pub fn image_index(s: &[u8], k: usize) -> u8
-    ensures { result ≡ imageIndexOf s.now (located s.now k) }
+    ensures { result ≡ image_index_of s.now (located s.now k) }
 {
     values_of(s, k).index
 }
 
 // The hardware instance of payload item k.
 pub fn hardware_instance(s: &[u8], k: usize) -> u64
-    ensures { result ≡ hardwareInstanceOf s.now (located s.now k) }
+    ensures { result ≡ hardware_instance_of s.now (located s.now k) }
 {
     values_of(s, k).instance
 }

@@ -2,10 +2,10 @@
 // the booted bank, the caller's words and the room; each function asks that of its caller.
 ghost use Rattle.std.specs.Prelude.{◌≡◌, true, ◌+◌, ◌*◌, ◌≤◌, ◌<◌, length};
 ghost use Rattle.fields.specs.Number.{put};
-ghost use Rattle.record_layout.specs.Layout.{bankCount, imageCount};
+ghost use Rattle.record_layout.specs.Layout.{bank_count, image_count};
 ghost use Rattle.record_layout.specs.Rules.{sound};
-ghost use Rattle.directory_layout.specs.Layout.{directoryHeaderSize, directorySize, entryStart, entryBytes, entriesBytes, up_to};
-ghost use Rattle.directory_entries.specs.Installed.{wordsAnImage, installedEntry};
+ghost use Rattle.directory_layout.specs.Layout.{directory_header_size, directory_size, entry_start, entry_bytes, entries_bytes, up_to};
+ghost use Rattle.directory_entries.specs.Installed.{words_an_image, installed_entry};
 
 use directory_layout::{ENTRY, HEADER, PERMISSIONS_FROM, WORDS};
 use field_writes::{write_guid, write_words};
@@ -13,10 +13,10 @@ use record_layout::{accepted_word, bank_count, entry_at, image_count};
 
 // Puts the entry of image i at its place.
 fn put_entry(r: &[u8], i: usize, booted: usize, words: &[u32], out: &mut [u8])
-    requires { (sound r.now ≡ true) × (i < imageCount r.now) × (booted < bankCount r.now)
-        × (imageCount r.now * wordsAnImage ≤ length words.now) × (directorySize (imageCount r.now) ≤ length out.old) }
+    requires { (sound r.now ≡ true) × (i < image_count r.now) × (booted < bank_count r.now)
+        × (image_count r.now * words_an_image ≤ length words.now) × (directory_size (image_count r.now) ≤ length out.old) }
     ensures { out.new
-        ≡ put out.old (entryStart i) (entryBytes (installedEntry r.now booted words.now i)) }
+        ≡ put out.old (entry_start i) (entry_bytes (installed_entry r.now booted words.now i)) }
 {
     let banks = bank_count(r);
     let at = HEADER + i * ENTRY;
@@ -29,10 +29,10 @@ fn put_entry(r: &[u8], i: usize, booted: usize, words: &[u32], out: &mut [u8])
 
 // Puts the entries of all images behind the header's place.
 pub fn put_entries(r: &[u8], booted: usize, words: &[u32], out: &mut [u8])
-    requires { (sound r.now ≡ true) × (booted < bankCount r.now)
-        × (imageCount r.now * wordsAnImage ≤ length words.now) × (directorySize (imageCount r.now) ≤ length out.old) }
-    ensures { out.new ≡ put out.old directoryHeaderSize
-        (entriesBytes (up_to (imageCount r.now) (installedEntry r.now booted words.now))) }
+    requires { (sound r.now ≡ true) × (booted < bank_count r.now)
+        × (image_count r.now * words_an_image ≤ length words.now) × (directory_size (image_count r.now) ≤ length out.old) }
+    ensures { out.new ≡ put out.old directory_header_size
+        (entries_bytes (up_to (image_count r.now) (installed_entry r.now booted words.now))) }
 {
     let images = image_count(r);
     let mut i = 0;

@@ -1,7 +1,7 @@
 // The image directory's layout (I1 to I4): its lengths and where its fields stand. What it holds and its bytes are
 // defined in specs/; it is written and read in the crates above.
 ghost use Rattle.std.specs.Prelude.{◌≡◌};
-ghost use Rattle.directory_layout.specs.Layout.{permissionsRight};
+ghost use Rattle.directory_layout.specs.Layout.{permissions_right};
 
 // The lengths of the header, behind which the entries start, and of an entry.
 pub const HEADER: usize = 24;
@@ -45,7 +45,7 @@ pub const WORDS: usize = 4;
 
 // I4: bits 31 to 3 of permissions are zero. It serves the writer and the reader.
 pub fn permissions_right(p: u32) -> bool
-    ensures { result ≡ permissionsRight p }
+    ensures { result ≡ permissions_right p }
 {
     p / 8 == 0
 }

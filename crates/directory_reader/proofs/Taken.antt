@@ -8,37 +8,37 @@ use lib.Dec.{eqb, leb}
 use lib.ListN.{length}
 use Rattle.fields.proofs.Tests.{both}
 use Rattle.refusal_order.specs.Decide.{passed, decide}
-use Rattle.refusal_order.proofs.Decide.{no-fault}
-use Rattle.record_layout.specs.Layout.{imageLimit}
-use Rattle.directory_layout.specs.Layout.{directoryHeaderSize, directoryEntrySize, directorySize, directoryVersion, booleanRight}
-use Rattle.directory_layout.specs.Layout.{versionIn, arrayOffsetIn, imagesIn, correctBootIn, entrySizeIn, headerReservedIn}
-use Rattle.directory_reader.specs.Reader.{headerRight, readerTests}
+use Rattle.refusal_order.proofs.Decide.{no_fault}
+use Rattle.record_layout.specs.Layout.{image_limit}
+use Rattle.directory_layout.specs.Layout.{directory_header_size, directory_entry_size, directory_size, directory_version, boolean_right}
+use Rattle.directory_layout.specs.Layout.{version_in, array_offset_in, images_in, correct_boot_in, entry_size_in, header_reserved_in}
+use Rattle.directory_reader.specs.Reader.{header_right, reader_tests}
 
 -- the tests of the header behind its count, and those from its count on
 abbrev behind : List ℕ → Bool
-behind d = booleanRight (correctBootIn d) && (eqb (entrySizeIn d) directoryEntrySize && eqb (headerReservedIn d) 0)
+behind d = boolean_right (correct_boot_in d) && (eqb (entry_size_in d) directory_entry_size && eqb (header_reserved_in d) 0)
 
 abbrev counted : List ℕ → Bool
-counted d = leb 1 (imagesIn d) && leb (imagesIn d) imageLimit
+counted d = leb 1 (images_in d) && leb (images_in d) image_limit
 
-pub header-images : (d : List ℕ) → headerRight d ≡ true → (1 ≤ imagesIn d) × (imagesIn d ≤ imageLimit)
-unfolding headerRight
-header-images d e =
-    let v = (both (eqb (versionIn d) directoryVersion) (eqb (arrayOffsetIn d) directoryHeaderSize && (counted d && behind d)) e).1 in
-    let o = (both (eqb (arrayOffsetIn d) directoryHeaderSize) (counted d && behind d) v).1 in
-    let q = both (leb 1 (imagesIn d)) (leb (imagesIn d) imageLimit) (both (counted d) (behind d) o).0 in
-    (leb-true 1 (imagesIn d) q.0, leb-true (imagesIn d) imageLimit q.1)
+pub header_images : (d : List ℕ) → header_right d ≡ true → (1 ≤ images_in d) × (images_in d ≤ image_limit)
+unfolding header_right
+header_images d e =
+    let v = (both (eqb (version_in d) directory_version) (eqb (array_offset_in d) directory_header_size && (counted d && behind d)) e).1 in
+    let o = (both (eqb (array_offset_in d) directory_header_size) (counted d && behind d) v).1 in
+    let q = both (leb 1 (images_in d)) (leb (images_in d) image_limit) (both (counted d) (behind d) o).0 in
+    (leb-true 1 (images_in d) q.0, leb-true (images_in d) image_limit q.1)
 
 -- its image count, and its length
 pub record Taken (d : List ℕ) : Type 0 where
-  pub few : imagesIn d ≤ imageLimit
-  pub long : length d ≡ directorySize (imagesIn d)
+  pub few : images_in d ≤ image_limit
+  pub long : length d ≡ directory_size (images_in d)
 
-pub taken : (d : List ℕ) → decide (readerTests d) ≡ passed → Taken d
-unfolding readerTests
+pub taken : (d : List ℕ) → decide (reader_tests d) ≡ passed → Taken d
+unfolding reader_tests
 taken d e =
-    let f = no-fault (readerTests d) (sym e) in
+    let f = no_fault (reader_tests d) (sym e) in
     record {
-      few = (header-images d (not-false (headerRight d) f.1.0)).1;
-      long = eqb-true (length d) (directorySize (imagesIn d)) (not-false _ f.1.1.0);
+      few = (header_images d (not-false (header_right d) f.1.0)).1;
+      long = eqb-true (length d) (directory_size (images_in d)) (not-false _ f.1.1.0);
     }

@@ -3,11 +3,11 @@
 // which refusal it was; the others then answer 0. What an entry of the directory shows is handed out by crate
 // directory_values.
 ghost use Rattle.std.specs.Prelude.{◌≡◌, ◌≤◌, ◌<◌, length};
-ghost use Rattle.refusal_order.specs.Decide.{decide, decisionOf};
-ghost use Rattle.record_layout.specs.Layout.{imageLimit};
-ghost use Rattle.directory_layout.specs.Layout.{directoryHeaderSize, directorySize, imagesIn};
-ghost use Rattle.directory_reader.specs.Reader.{headerRight, entryRight, entriesRight, readerTests};
-ghost use Rattle.directory_reader.specs.Reader.{shownImages, shownCorrectBoot};
+ghost use Rattle.refusal_order.specs.Decide.{decide, decision_of};
+ghost use Rattle.record_layout.specs.Layout.{image_limit};
+ghost use Rattle.directory_layout.specs.Layout.{directory_header_size, directory_size, images_in};
+ghost use Rattle.directory_reader.specs.Reader.{header_right, entry_right, entries_right, reader_tests};
+ghost use Rattle.directory_reader.specs.Reader.{shown_images, shown_correct_boot};
 
 use directory_layout::{
     ACCEPTED_FROM, ARRAY_OFFSET_AT, CORRECT_BOOT_AT, ENTRY, ENTRY_SIZE_AT, HEADER, IMAGES_AT,
@@ -21,8 +21,8 @@ use refusals::Refusal;
 
 // 44: the fields of the header.
 fn header_right(d: &[u8]) -> bool
-    requires { directoryHeaderSize ≤ length d.now }
-    ensures { result ≡ headerRight d.now }
+    requires { directory_header_size ≤ length d.now }
+    ensures { result ≡ header_right d.now }
 {
     if read32(d, VERSION_AT) != VERSION {
         return false;
@@ -48,8 +48,8 @@ fn header_right(d: &[u8]) -> bool
 
 // Of entry k: permissions, accepted and reserved.
 fn entry_right(d: &[u8], k: usize) -> bool
-    requires { (k < imagesIn d.now) × (imagesIn d.now ≤ imageLimit) × (length d.now ≡ directorySize (imagesIn d.now)) }
-    ensures { result ≡ entryRight d.now k }
+    requires { (k < images_in d.now) × (images_in d.now ≤ image_limit) × (length d.now ≡ directory_size (images_in d.now)) }
+    ensures { result ≡ entry_right d.now k }
 {
     let at = HEADER + k * ENTRY;
     if !permissions_right(read32(d, at + PERMISSIONS_FROM)) {
@@ -63,8 +63,8 @@ fn entry_right(d: &[u8], k: usize) -> bool
 
 // 46: every entry, and the type GUIDs.
 fn entries_right(d: &[u8], images: usize) -> bool
-    requires { (images ≡ imagesIn d.now) × (images ≤ imageLimit) × (length d.now ≡ directorySize images) }
-    ensures { result ≡ entriesRight d.now }
+    requires { (images ≡ images_in d.now) × (images ≤ image_limit) × (length d.now ≡ directory_size images) }
+    ensures { result ≡ entries_right d.now }
 {
     let mut k = 0;
     while k < images {
@@ -78,7 +78,7 @@ fn entries_right(d: &[u8], images: usize) -> bool
 
 // The sister of all that is shown: the refusal, 43 to 46, or none.
 pub fn refusal(d: &[u8]) -> Verdict
-    ensures { decisionOf result ≡ decide (readerTests d.now) }
+    ensures { decision_of result ≡ decide (reader_tests d.now) }
 {
     if d.len() < HEADER {
         return Verdict::Refused(Refusal::DirectoryShort);
@@ -98,7 +98,7 @@ pub fn refusal(d: &[u8]) -> Verdict
 
 // How many images a directory tells of; 0 with a refusal.
 pub fn image_count(d: &[u8]) -> u32
-    ensures { result ≡ shownImages d.now }
+    ensures { result ≡ shown_images d.now }
 {
     let verdict = refusal(d);
     match verdict {
@@ -110,7 +110,7 @@ pub fn image_count(d: &[u8]) -> u32
 // Its correct_boot: 1 where the platform booted with the active bank, else 0. With a refusal it is 0 too: ask `refusal`
 // first.
 pub fn correct_boot(d: &[u8]) -> u32
-    ensures { result ≡ shownCorrectBoot d.now }
+    ensures { result ≡ shown_correct_boot d.now }
 {
     let verdict = refusal(d);
     match verdict {

@@ -5,9 +5,9 @@
 ghost use Rattle.std.specs.Prelude.{◌≡◌};
 ghost use Rattle.fields.specs.Part.{IsPart, range_of};
 ghost use Rattle.refusal_order.specs.Decide.{decide, passed};
-ghost use Rattle.directory_reader.specs.Reader.{readerTests};
-ghost use Rattle.directory_values.specs.Values.{guidRange, shownGuid};
-ghost use Rattle.directory_values.specs.Values.{numbersOf, zeroNumbers, numbersOrZeros, shownNumbers};
+ghost use Rattle.directory_reader.specs.Reader.{reader_tests};
+ghost use Rattle.directory_values.specs.Values.{guid_range, shown_guid};
+ghost use Rattle.directory_values.specs.Values.{numbers_of, zero_numbers, numbers_or_zeros, shown_numbers};
 
 use directory_layout::{
     ACCEPTED_FROM, ENTRY, GUID, HEADER, IMAGES_AT, LOWEST_ACCEPTED_VERSION_FROM, MAXIMUM_SIZE_FROM,
@@ -30,8 +30,8 @@ pub struct Numbers {
 // Where the type GUID of entry k lies in a directory that is taken. No function of the product's: it serves
 // c_directory_values too.
 pub fn guid_span(d: &[u8], k: usize) -> Span
-    requires { decide (readerTests d.now) ≡ passed }
-    ensures { range_of result ≡ guidRange d.now k }
+    requires { decide (reader_tests d.now) ≡ passed }
+    ensures { range_of result ≡ guid_range d.now k }
 {
     if (read32(d, IMAGES_AT) as usize) <= k {
         return Span { start: 0, end: 0 };
@@ -45,7 +45,7 @@ pub fn guid_span(d: &[u8], k: usize) -> Span
 
 // The type GUID of entry k.
 pub fn type_guid(d: &[u8], k: usize) -> &[u8]
-    ensures { IsPart d.entry result (shownGuid d.now k) }
+    ensures { IsPart d.entry result (shown_guid d.now k) }
 {
     let verdict = refusal(d);
     if let Verdict::Refused(_) = verdict {
@@ -57,7 +57,7 @@ pub fn type_guid(d: &[u8], k: usize) -> &[u8]
 
 // Zeros, past the count and with a refusal.
 fn zeros() -> Numbers
-    ensures { numbersOf result ≡ zeroNumbers }
+    ensures { numbers_of result ≡ zero_numbers }
 {
     Numbers {
         permissions: 0,
@@ -70,8 +70,8 @@ fn zeros() -> Numbers
 
 // The numbers of entry k of a directory that is taken. No function of the product's: it serves c_directory_values too.
 pub fn numbers_or_zeros(d: &[u8], k: usize) -> Numbers
-    requires { decide (readerTests d.now) ≡ passed }
-    ensures { numbersOf result ≡ numbersOrZeros d.now k }
+    requires { decide (reader_tests d.now) ≡ passed }
+    ensures { numbers_of result ≡ numbers_or_zeros d.now k }
 {
     if (read32(d, IMAGES_AT) as usize) <= k {
         return zeros();
@@ -88,7 +88,7 @@ pub fn numbers_or_zeros(d: &[u8], k: usize) -> Numbers
 
 // The five numbers of entry k.
 pub fn entry_numbers(d: &[u8], k: usize) -> Numbers
-    ensures { numbersOf result ≡ shownNumbers d.now k }
+    ensures { numbers_of result ≡ shown_numbers d.now k }
 {
     let verdict = refusal(d);
     if let Verdict::Refused(_) = verdict {

@@ -2,11 +2,11 @@
 -- promise. Assumes nothing.
 use Rattle.std.specs.Prelude.{ℕ, List, ◌∷◌, length}
 use Rattle.refusal_order.specs.Decide.{decide, Reply}
-use Rattle.update_start_up.specs.StartUp.{bootedTest}
-use Rattle.directory_layout.specs.Layout.{directoryBytes}
-use Rattle.directory_writer.specs.Writer.{installed, directoryTests, written_by}
+use Rattle.update_start_up.specs.StartUp.{booted_test}
+use Rattle.directory_layout.specs.Layout.{directory_bytes}
+use Rattle.directory_writer.specs.Writer.{installed, directory_tests, written_by}
 
 -- 28, 40, 41, 42
-unfoldable pub writtenFrom : (r : List ℕ) (booted : ℕ) (words out : List ℕ) → Reply ℕ × List ℕ
-writtenFrom r booted words out =
-    written_by (decide (bootedTest r booted ∷ directoryTests r words (length out))) (directoryBytes (installed r booted words)) out
+unfoldable pub written_from : (r : List ℕ) (booted : ℕ) (words out : List ℕ) → Reply ℕ × List ℕ
+written_from r booted words out =
+    written_by (decide (booted_test r booted ∷ directory_tests r words (length out))) (directory_bytes (installed r booted words)) out

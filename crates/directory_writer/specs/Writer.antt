@@ -5,56 +5,56 @@ use Rattle.fields.specs.Number.{put}
 use Rattle.refusals.specs.declared.Refusal.TheVariants.{DirectoryWords, DirectoryPermissions, DirectoryRoom}
 use Rattle.refusal_order.specs.Decide.{Decision, passed, refusal, Test, decide, Reply, gives, refuses, refusing}
 use Rattle.record_layout.specs.Every.{below}
-use Rattle.record_layout.specs.Layout.{imageCount}
-use Rattle.record_copies.specs.Copies.{recordRead}
+use Rattle.record_layout.specs.Layout.{image_count}
+use Rattle.record_copies.specs.Copies.{record_read}
 use Rattle.update_session.specs.declared.Session.{Session}
 use Rattle.update_session.specs.declared.Session.TheVariants.{Regular, Staging, Trial, Fallback, Restart}
-use Rattle.update_start_up.specs.StartUp.{startedSession, startUpTests}
-use Rattle.directory_layout.specs.Layout.{Directory, directoryBytes, directorySize, up_to, permissionsRight}
-use Rattle.directory_entries.specs.Installed.{wordsAnImage, word_for, installedEntry}
+use Rattle.update_start_up.specs.StartUp.{started_session, start_up_tests}
+use Rattle.directory_layout.specs.Layout.{Directory, directory_bytes, directory_size, up_to, permissions_right}
+use Rattle.directory_entries.specs.Installed.{words_an_image, word_for, installed_entry}
 use Rattle.directory_writer.specs.declared.Written.{Written}
 use Rattle.directory_writer.specs.declared.Written.TheVariants.{Length, Refused}
 
 -- I5: correct_boot is 0 exactly where start-up answers Fallback; it never answers Staging or Restart
-abbrev pub correctBootOf : Session → ℕ
-correctBootOf Regular = 1
-correctBootOf (Staging bank set) = 1
-correctBootOf Trial = 1
-correctBootOf Fallback = 0
-correctBootOf Restart = 1
+abbrev pub correct_boot_of : Session → ℕ
+correct_boot_of Regular = 1
+correct_boot_of (Staging bank set) = 1
+correct_boot_of Trial = 1
+correct_boot_of Fallback = 0
+correct_boot_of Restart = 1
 
 -- what the directory of a record, a booted bank and the caller's words holds
 abbrev pub installed : (r : List ℕ) (booted : ℕ) (words : List ℕ) → Directory
 installed r booted words =
     record {
-      correctBoot = correctBootOf (startedSession r booted);
-      entries = up_to (imageCount r) (installedEntry r booted words);
+      correct_boot = correct_boot_of (started_session r booted);
+      entries = up_to (image_count r) (installed_entry r booted words);
     }
 
 -- N40: fewer than four words for each image
-abbrev pub wordsTest : (r words : List ℕ) → Test
-wordsTest r words = (ltb (length words) (imageCount r * wordsAnImage), DirectoryWords)
+abbrev pub words_test : (r words : List ℕ) → Test
+words_test r words = (ltb (length words) (image_count r * words_an_image), DirectoryWords)
 
 -- N41: the permissions given for one of the record's images have one of bits 31 to 3
-abbrev pub permissionsTest : (r words : List ℕ) → Test
-permissionsTest r words = (not (below (imageCount r) (λ i. permissionsRight (word_for words i 0))), DirectoryPermissions)
+abbrev pub permissions_test : (r words : List ℕ) → Test
+permissions_test r words = (not (below (image_count r) (λ i. permissions_right (word_for words i 0))), DirectoryPermissions)
 
 -- N42: the output slice is shorter than the directory
-abbrev pub roomTest : (r : List ℕ) (room : ℕ) → Test
-roomTest r room = (ltb room (directorySize (imageCount r)), DirectoryRoom)
+abbrev pub room_test : (r : List ℕ) (room : ℕ) → Test
+room_test r room = (ltb room (directory_size (image_count r)), DirectoryRoom)
 
 -- 40, 41, 42
-abbrev pub directoryTests : (r words : List ℕ) (room : ℕ) → List Test
-directoryTests r words room = wordsTest r words ∷ permissionsTest r words ∷ roomTest r room ∷ []
+abbrev pub directory_tests : (r words : List ℕ) (room : ℕ) → List Test
+directory_tests r words room = words_test r words ∷ permissions_test r words ∷ room_test r room ∷ []
 
 -- behind those of start-up: 20, 21, 28
-unfoldable pub writerTests : (a : List ℕ) (booted : ℕ) (words : List ℕ) (room : ℕ) → List Test
-writerTests a booted words room = startUpTests a booted ++ directoryTests (recordRead a) words room
+unfoldable pub writer_tests : (a : List ℕ) (booted : ℕ) (words : List ℕ) (room : ℕ) → List Test
+writer_tests a booted words room = start_up_tests a booted ++ directory_tests (record_read a) words room
 
 -- what each case of the answer states
-abbrev pub writtenReply : Written → Reply ℕ
-writtenReply (Length n) = gives n
-writtenReply (Refused r) = refusing r
+abbrev pub written_reply : Written → Reply ℕ
+written_reply (Length n) = gives n
+written_reply (Refused r) = refusing r
 
 -- I8: how many bytes were written, and the output slice afterwards: the directory at its front, every byte past it as it
 -- was; with a refusal every byte
@@ -64,4 +64,4 @@ written_by (refusal number values) directory out = (refuses number values, out)
 
 unfoldable pub written : (a : List ℕ) (booted : ℕ) (words out : List ℕ) → Reply ℕ × List ℕ
 written a booted words out =
-    written_by (decide (writerTests a booted words (length out))) (directoryBytes (installed (recordRead a) booted words)) out
+    written_by (decide (writer_tests a booted words (length out))) (directory_bytes (installed (record_read a) booted words)) out

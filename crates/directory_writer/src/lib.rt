@@ -2,15 +2,15 @@
 // words. Refusals 20, 21, 28 as start-up gives them, then 40, 41, 42.
 ghost use Rattle.std.specs.Prelude.{◌≡◌, true, ◌*◌, ◌≤◌, ◌<◌, length};
 ghost use Rattle.fields.specs.Number.{put};
-ghost use Rattle.refusal_order.specs.Decide.{decide, decisionOf, passed};
+ghost use Rattle.refusal_order.specs.Decide.{decide, decision_of, passed};
 ghost use Rattle.record_layout.specs.Every.{below};
-ghost use Rattle.record_layout.specs.Layout.{bankCount, imageCount};
+ghost use Rattle.record_layout.specs.Layout.{bank_count, image_count};
 ghost use Rattle.record_layout.specs.Rules.{sound};
-ghost use Rattle.update_start_up.specs.StartUp.{startedSession};
-ghost use Rattle.directory_layout.specs.Layout.{permissionsRight, directoryBytes, directorySize};
-ghost use Rattle.directory_entries.specs.Installed.{wordsAnImage, word_for};
-ghost use Rattle.directory_writer.specs.Writer.{correctBootOf, installed, directoryTests, writtenReply, written};
-ghost use Rattle.directory_writer.specs.Step.{writtenFrom};
+ghost use Rattle.update_start_up.specs.StartUp.{started_session};
+ghost use Rattle.directory_layout.specs.Layout.{permissions_right, directory_bytes, directory_size};
+ghost use Rattle.directory_entries.specs.Installed.{words_an_image, word_for};
+ghost use Rattle.directory_writer.specs.Writer.{correct_boot_of, installed, directory_tests, written_reply, written};
+ghost use Rattle.directory_writer.specs.Step.{written_from};
 
 use directory_entries::put_entries;
 use directory_layout::{ENTRY, HEADER, VERSION, WORDS, permissions_right};
@@ -31,7 +31,7 @@ pub enum Written {
 
 // I5: 0 in Fallback, else 1.
 fn correct_boot(session: Session) -> u32
-    ensures { result ≡ correctBootOf session }
+    ensures { result ≡ correct_boot_of session }
 {
     match session {
         Session::Fallback => 0,
@@ -41,8 +41,8 @@ fn correct_boot(session: Session) -> u32
 
 // Whether bits 31 to 3 are zero in the permissions of each of so many images.
 fn all_permissions_right(words: &[u32], images: usize) -> bool
-    requires { images * wordsAnImage ≤ length words.now }
-    ensures { result ≡ below images (λ i. permissionsRight (word_for words.now i 0)) }
+    requires { images * words_an_image ≤ length words.now }
+    ensures { result ≡ below images (λ i. permissions_right (word_for words.now i 0)) }
 {
     let mut i = 0;
     while i < images {
@@ -57,7 +57,7 @@ fn all_permissions_right(words: &[u32], images: usize) -> bool
 // 40, 41 and 42, in that order.
 fn admit(r: &[u8], words: &[u32], room: usize) -> Verdict
     requires { sound r.now ≡ true }
-    ensures { decisionOf result ≡ decide (directoryTests r.now words.now room) }
+    ensures { decision_of result ≡ decide (directory_tests r.now words.now room) }
 {
     let images = image_count(r);
     if words.len() < images * WORDS {
@@ -74,10 +74,10 @@ fn admit(r: &[u8], words: &[u32], room: usize) -> Verdict
 
 // Puts the directory of a sound record at the front of `out`, and answers its length.
 fn put_directory(r: &[u8], booted: u32, session: Session, words: &[u32], out: &mut [u8]) -> usize
-    requires { (sound r.now ≡ true) × (booted < bankCount r.now) × (session ≡ startedSession r.now booted)
-        × (imageCount r.now * wordsAnImage ≤ length words.now) × (directorySize (imageCount r.now) ≤ length out.old) }
-    ensures { (result ≡ length (directoryBytes (installed r.now booted words.now)))
-        × (out.new ≡ put out.old 0 (directoryBytes (installed r.now booted words.now))) }
+    requires { (sound r.now ≡ true) × (booted < bank_count r.now) × (session ≡ started_session r.now booted)
+        × (image_count r.now * words_an_image ≤ length words.now) × (directory_size (image_count r.now) ≤ length out.old) }
+    ensures { (result ≡ length (directory_bytes (installed r.now booted words.now)))
+        × (out.new ≡ put out.old 0 (directory_bytes (installed r.now booted words.now))) }
 {
     let images = image_count(r);
     let six = [
@@ -96,7 +96,7 @@ fn put_directory(r: &[u8], booted: u32, session: Session, words: &[u32], out: &m
 // What a sound record gives.
 fn write_from(r: &[u8], booted: u32, words: &[u32], out: &mut [u8]) -> Written
     requires { sound r.now ≡ true }
-    ensures { (writtenReply result, out.new) ≡ writtenFrom r.now booted words.now out.old }
+    ensures { (written_reply result, out.new) ≡ written_from r.now booted words.now out.old }
 {
     let started = session_from(r, booted);
     match started {
@@ -114,7 +114,7 @@ fn write_from(r: &[u8], booted: u32, words: &[u32], out: &mut [u8]) -> Written
 // Writes the directory of what is installed at the front of `out`; every byte past it stays, and with a refusal every
 // byte does. `words` holds four for each image: permissions, maximum size, lowest accepted version, version.
 pub fn write_directory(area: &[u8], booted: u32, words: &[u32], out: &mut [u8]) -> Written
-    ensures { (writtenReply result, out.new) ≡ written area.now booted words.now out.old }
+    ensures { (written_reply result, out.new) ≡ written area.now booted words.now out.old }
 {
     if area.len() != AREA {
         return Written::Refused(Refusal::AreaLength);

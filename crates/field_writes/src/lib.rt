@@ -2,7 +2,7 @@
 // and GUIDs as crate fields reads them. These functions serve the crates above, which have tested where a field stands;
 // each asks that of its caller.
 ghost use Rattle.std.specs.Prelude.{◌≡◌, ◌+◌, ◌*◌, ◌≤◌, length};
-ghost use Rattle.fields.specs.Number.{bytes, put, wordsBytes};
+ghost use Rattle.fields.specs.Number.{bytes, put, words_bytes};
 ghost use Rattle.fields.specs.Guid.{guid};
 ghost use Rattle.fields.specs.Part.{part};
 
@@ -47,7 +47,7 @@ pub fn write_guid(s: &mut [u8], at: usize, t: &[u8], from: usize)
 // Puts 32-bit numbers at `at`, one behind another.
 pub fn write_words(s: &mut [u8], at: usize, words: &[u32])
     requires { at + 4 * length words.now ≤ length s.old }
-    ensures { s.new ≡ put s.old at (wordsBytes words.now) }
+    ensures { s.new ≡ put s.old at (words_bytes words.now) }
 {
     let mut i = 0;
     while i < words.len() {

@@ -9,12 +9,12 @@ use native.Mathlib.Numerals.{add-one}
 use native.Mathlib.Omega.{arith}
 use lib.ListN.{length, take, drop, length-append, take-append-drop, drop_of_length-le}
 use lib.Seq.{drop-append-le, drop_at, take_at, drop-drop}
-use Rattle.fields.specs.Number.{Bytes, wordsBytes}
+use Rattle.fields.specs.Number.{Bytes, words_bytes}
 use Rattle.fields.specs.Guid.{guid}
 use Rattle.fields.specs.Joined.{joined}
-use Rattle.fields.proofs.Tests.{le-or-lt}
-use Rattle.fields.proofs.Bytes.{append-bytes}
-use Rattle.fields.proofs.Words.{length-words, Fit, Reads, words-read, words-written}
+use Rattle.fields.proofs.Tests.{le_or_lt}
+use Rattle.fields.proofs.Bytes.{append_bytes}
+use Rattle.fields.proofs.Words.{length_words, Fit, Reads, words_read, words_written}
 
 pub joined_length : (w n : ℕ) (g : ℕ → List ℕ) → ((k : ℕ) → k < n → length (g k) ≡ w) → length (joined n g) ≡ n * w
 unfolding joined
@@ -26,7 +26,7 @@ pub joined_bytes : (n : ℕ) (g : ℕ → List ℕ) → ((k : ℕ) → k < n →
 unfolding joined
 joined_bytes zero g h i = omega arith
 joined_bytes (suc n) g h i =
-    append-bytes (joined n g) (g n) (joined_bytes n g (λ k lt. h k (omega arith))) (h n (omega arith)) i
+    append_bytes (joined n g) (g n) (joined_bytes n g (λ k lt. h k (omega arith))) (h n (omega arith)) i
 
 -- the k-th of them, at its place
 pub joined_at : (w n k : ℕ) (g : ℕ → List ℕ) → ((i : ℕ) → i < n → length (g i) ≡ w) → k < n
@@ -47,7 +47,7 @@ joined_at w (suc n) k g h lt =
     drop-append-le (k * w) front (g n) (omega arith)
     ∙ rw (joined_at w n k g before less, drop-append-le (k * w + w) front (g n) fits)
     (append_assoc (g k) (drop (k * w + w) front) (g n)))
-    (le-or-lt n k)
+    (le_or_lt n k)
 
 -- ---- lists of any length
 -- of the same lists, the same whole
@@ -77,8 +77,8 @@ rejoined (suc n) place s g h =
     ∙ sym (append_assoc (joined n g) (g n) (drop (place (suc n)) s))
 
 -- ---- entries: a GUID, and numbers behind it
-abbrev pub guidWords : (guids words : ℕ → List ℕ) → ℕ → List ℕ
-guidWords guids words k = guids k ++ wordsBytes (words k)
+abbrev pub guid_words : (guids words : ℕ → List ℕ) → ℕ → List ℕ
+guid_words guids words k = guids k ++ words_bytes (words k)
 
 -- they are what is read of s at b
 abbrev pub EntryReads : (s : List ℕ) (b : ℕ) (id vs : List ℕ) → Type 0
@@ -87,46 +87,46 @@ EntryReads s b id vs = (guid s b ≡ id) × Reads s b 16 vs
 -- n of them, each w bytes long, behind a header of o bytes
 module _ (o w n : ℕ) (guids words : ℕ → List ℕ) (wide : (k : ℕ) → 16 + 4 * length (words k) ≡ w) where
   module _ (whole : (k : ℕ) → k < n → length (guids k) ≡ 16) where
-    entry-long : (k : ℕ) → k < n → length (guidWords guids words k) ≡ w
-    entry-long k h = omega (arith, length-append (guids k) (wordsBytes (words k)), length-words (words k), whole k h, wide k)
+    entry_long : (k : ℕ) → k < n → length (guid_words guids words k) ≡ w
+    entry_long k h = omega (arith, length-append (guids k) (words_bytes (words k)), length_words (words k), whole k h, wide k)
 
-    pub entries-long : length (joined n (guidWords guids words)) ≡ n * w
-    entries-long = joined_length w n (guidWords guids words) entry-long
+    pub entries_long : length (joined n (guid_words guids words)) ≡ n * w
+    entries_long = joined_length w n (guid_words guids words) entry_long
 
     -- what is written is read
-    pub entries-read : (head s : List ℕ) → length head ≡ o → s ≡ head ++ joined n (guidWords guids words)
+    pub entries_read : (head s : List ℕ) → length head ≡ o → s ≡ head ++ joined n (guid_words guids words)
         → (k : ℕ) → k < n → Fit (words k) → EntryReads s (o + k * w) (guids k) (words k)
     unfolding guid
-    entries-read head s long is k h fit =
+    entries_read head s long is k h fit =
         let b = o + k * w in
         let id = guids k in
-        let own = wordsBytes (words k) in
-        let all = joined n (guidWords guids words) in
+        let own = words_bytes (words k) in
+        let all = joined n (guid_words guids words) in
         let rest = drop (k * w + w) all in
         let here : drop b s ≡ id ++ (own ++ rest) =
         ap (λ (l : List ℕ). drop b l) is
         ∙ sym (drop-drop (k * w) o (head ++ all))
         ∙ rw (drop_at head all o long)
-        (joined_at w n k (guidWords guids words) entry-long h ∙ append_assoc id own rest) in (
+        (joined_at w n k (guid_words guids words) entry_long h ∙ append_assoc id own rest) in (
           ap (λ (l : List ℕ). take 16 l) here ∙ take_at id (own ++ rest) 16 (whole k h),
-          words-read (words k) s b 16 rest fit
+          words_read (words k) s b 16 rest fit
               (sym (drop-drop 16 b s) ∙ ap (λ (l : List ℕ). drop 16 l) here ∙ drop_at id (own ++ rest) 16 (whole k h)),
         )
 
   -- and what is read is what is written
-  pub entries-back : (s : List ℕ) → Bytes s → length s ≡ o + n * w
-      → ((k : ℕ) → k < n → EntryReads s (o + k * w) (guids k) (words k)) → drop o s ≡ joined n (guidWords guids words)
+  pub entries_back : (s : List ℕ) → Bytes s → length s ≡ o + n * w
+      → ((k : ℕ) → k < n → EntryReads s (o + k * w) (guids k) (words k)) → drop o s ≡ joined n (guid_words guids words)
   unfolding guid
-  entries-back s small long each =
+  entries_back s small long each =
       let past : length s ≤ o + n * w = omega arith in
       let none : o ≡ o + 0 * w = omega (arith, zero-mul w) in
       ap (λ (k : ℕ). drop k s) none
-      ∙ rejoined n (λ k. o + k * w) s (guidWords guids words) (λ k h.
+      ∙ rejoined n (λ k. o + k * w) s (guid_words guids words) (λ k h.
       let b = o + k * w in
-      let own = wordsBytes (words k) in
+      let own = words_bytes (words k) in
       let in_list : b + w ≤ length s = omega (arith, mul-le-mul_right {m = suc k} {n = n} w h, suc-mul k w) in
       let end : b + 16 + 4 * length (words k) ≡ o + (k + 1) * w = omega (arith, wide k, add-mul k 1 w, one-mul w) in
-      let behind = words-written (words k) s b 16 small (omega arith) (each k h).1 in
+      let behind = words_written (words k) s b 16 small (omega arith) (each k h).1 in
       sym (take-append-drop 16 (drop b s))
       ∙ rw ((each k h).0, drop-drop 16 b s, behind, end) (sym (append_assoc (guids k) own (drop (o + (k + 1) * w) s))))
-      ∙ rw (drop_of_length-le s past) (append-nil (joined n (guidWords guids words)))
+      ∙ rw (drop_of_length-le s past) (append-nil (joined n (guid_words guids words)))

@@ -9,7 +9,7 @@ use lib.ListN.{length, take, drop, length-append}
 use lib.Seq.{drop-append-le, drop-append_seam, drop-length, drop_at, drop-drop, take_at}
 use Rattle.fields.specs.Part.{part}
 use Rattle.fields.specs.Joined.{joined}
-use Rattle.fields.proofs.Tests.{le-or-lt}
+use Rattle.fields.proofs.Tests.{le_or_lt}
 
 -- what stands behind a list that stands at o
 pub behind : (s a rest : List ℕ) (o n : ℕ) → drop o s ≡ a ++ rest → length a ≡ n → drop (o + n) s ≡ rest
@@ -20,34 +20,34 @@ pub part_at : (s a rest : List ℕ) (o e : ℕ) → drop o s ≡ a ++ rest → o
 part_at s a rest o e at l = ap (λ (k : List ℕ). take (e - o) k) at ∙ take_at a rest (e - o) (omega arith)
 
 -- one more of them
-pub stacked-next : (k : ℕ) (g : ℕ → List ℕ) → length (joined (k + 1) g) ≡ length (joined k g) + length (g k)
+pub stacked_next : (k : ℕ) (g : ℕ → List ℕ) → length (joined (k + 1) g) ≡ length (joined k g) + length (g k)
 unfolding joined
-stacked-next k g = rw add-one (length-append (joined k g) (g k))
+stacked_next k g = rw add-one (length-append (joined k g) (g k))
 
-pub stacked-rises : (m n : ℕ) (g : ℕ → List ℕ) → m ≤ n → length (joined m g) ≤ length (joined n g)
+pub stacked_rises : (m n : ℕ) (g : ℕ → List ℕ) → m ≤ n → length (joined m g) ≤ length (joined n g)
 unfolding joined
-stacked-rises m zero g h = let z : m ≡ 0 = omega arith in rw z (omega arith)
-stacked-rises m (suc n) g h =
+stacked_rises m zero g h = let z : m ≡ 0 = omega arith in rw z (omega arith)
+stacked_rises m (suc n) g h =
     ⊎_elim
-    (λ le. omega (arith, stacked-rises m n g le, length-append (joined n g) (g n)))
+    (λ le. omega (arith, stacked_rises m n g le, length-append (joined n g) (g n)))
     (λ lt.
     let z : m ≡ suc n = omega arith in
     rw z (omega arith))
-    (le-or-lt m n)
+    (le_or_lt m n)
 
 -- the k-th of them, behind those before it
-pub stacked-at : (n k : ℕ) (g : ℕ → List ℕ) → k < n
+pub stacked_at : (n k : ℕ) (g : ℕ → List ℕ) → k < n
     → drop (length (joined k g)) (joined n g) ≡ g k ++ drop (length (joined (k + 1) g)) (joined n g)
 unfolding joined
-stacked-at zero k g lt = absurd (omega arith)
-stacked-at (suc n) k g lt =
+stacked_at zero k g lt = absurd (omega arith)
+stacked_at (suc n) k g lt =
     let front = joined n g in
     ⊎_elim
     (λ le.
     let z : k ≡ n = omega arith in
     rw (z, add-one, drop-length (front ++ g n), append-nil (g n)) (drop-append_seam front (g n)))
     (λ less.
-    drop-append-le (length (joined k g)) front (g n) (stacked-rises k n g (omega arith))
-    ∙ rw (stacked-at n k g less, drop-append-le (length (joined (k + 1) g)) front (g n) (stacked-rises (k + 1) n g (omega arith)))
+    drop-append-le (length (joined k g)) front (g n) (stacked_rises k n g (omega arith))
+    ∙ rw (stacked_at n k g less, drop-append-le (length (joined (k + 1) g)) front (g n) (stacked_rises (k + 1) n g (omega arith)))
     (append_assoc (g k) (drop (length (joined (k + 1) g)) front) (g n)))
-    (le-or-lt n k)
+    (le_or_lt n k)

@@ -8,85 +8,85 @@ use native.Mathlib.Numerals.{add-one}
 use native.Mathlib.Omega.{arith}
 use lib.ListN.{length, take, drop, get_or, length-append, take-append-drop, get_or-append}
 use lib.Seq.{take_at, take-suc, take_all, length-take-le, get_or-drop, drop-drop, drop_at}
-use Rattle.fields.specs.Number.{Bytes, le, bytes, put, wordsBytes}
+use Rattle.fields.specs.Number.{Bytes, le, bytes, put, words_bytes}
 use Rattle.fields.specs.Guid.{guid}
-use Rattle.fields.proofs.Number.{le_same, le-of-bytes, length-bytes}
-use Rattle.fields.proofs.Bytes.{append-bytes, bytes_small, drop-number}
-use Rattle.fields.proofs.Put.{put-more}
+use Rattle.fields.proofs.Number.{le_same, le_of_bytes, length_bytes}
+use Rattle.fields.proofs.Bytes.{append_bytes, bytes_small, drop_number}
+use Rattle.fields.proofs.Put.{put_more}
 
 -- a GUID's sixteen bytes are those of two numbers
-pub guid-halves : (t : List ℕ) (o : ℕ) → Bytes t → o + 16 ≤ length t → bytes 8 (le 8 t o) ++ bytes 8 (le 8 t (o + 8)) ≡ guid t o
+pub guid_halves : (t : List ℕ) (o : ℕ) → Bytes t → o + 16 ≤ length t → bytes 8 (le 8 t o) ++ bytes 8 (le 8 t (o + 8)) ≡ guid t o
 unfolding guid
-guid-halves t o b h =
+guid_halves t o b h =
     let low = bytes 8 (le 8 t o) in
     let high = bytes 8 (le 8 t (o + 8)) in
-    let l : length (low ++ high) ≡ 16 = omega (arith, length-append low high, length-bytes 8 (le 8 t o), length-bytes 8 (le 8 t (o + 8))) in
+    let l : length (low ++ high) ≡ 16 = omega (arith, length-append low high, length_bytes 8 (le 8 t o), length_bytes 8 (le 8 t (o + 8))) in
     sym
     (ap (λ (k : List ℕ). take 16 k)
-    (drop-number 8 t o b (omega arith)
-    ∙ ap (λ (k : List ℕ). low ++ k) (drop-number 8 t (o + 8) b (omega arith))
+    (drop_number 8 t o b (omega arith)
+    ∙ ap (λ (k : List ℕ). low ++ k) (drop_number 8 t (o + 8) b (omega arith))
     ∙ sym (append_assoc low high (drop (o + 8 + 8) t)))
     ∙ take_at (low ++ high) (drop (o + 8 + 8) t) 16 l)
 
 -- two stores that put one, told by what each of them left
-pub put-guid : (s t : List ℕ) (i o : ℕ) {one two : List ℕ} → Bytes t → i + 16 ≤ length s → o + 16 ≤ length t
+pub put_guid : (s t : List ℕ) (i o : ℕ) {one two : List ℕ} → Bytes t → i + 16 ≤ length s → o + 16 ≤ length t
     → one ≡ put s i (bytes 8 (le 8 t o)) → two ≡ put one (i + 8) (bytes 8 (le 8 t (o + 8))) → two ≡ put s i (guid t o)
-put-guid s t i o {one} {two} b h k p q =
+put_guid s t i o {one} {two} b h k p q =
     let low = bytes 8 (le 8 t o) in
     let high = bytes 8 (le 8 t (o + 8)) in
-    let l : length low ≡ 8 = length-bytes 8 (le 8 t o) in
-    let m : length high ≡ 8 = length-bytes 8 (le 8 t (o + 8)) in
+    let l : length low ≡ 8 = length_bytes 8 (le 8 t o) in
+    let m : length high ≡ 8 = length_bytes 8 (le 8 t (o + 8)) in
     q
     ∙ ap (λ (x : List ℕ). put x (i + 8) high) p
     ∙ ap (λ (n : ℕ). put (put s i low) (i + n) high) (sym l)
-    ∙ put-more s i low high (omega arith)
-    ∙ ap (λ (x : List ℕ). put s i x) (guid-halves t o b k)
+    ∙ put_more s i low high (omega arith)
+    ∙ ap (λ (x : List ℕ). put s i x) (guid_halves t o b k)
 
 -- nothing put
-pub put-none : (s : List ℕ) (i : ℕ) → s ≡ put s i []
+pub put_none : (s : List ℕ) (i : ℕ) → s ≡ put s i []
 unfolding put
-put-none s i =
+put_none s i =
     sym
     (ap (λ (n : ℕ). take i s ++ [] ++ drop n s) (add-zero i)
     ∙ ap (λ (x : List ℕ). x ++ drop i s) (append-nil (take i s))
     ∙ take-append-drop i s)
 
-pub length-words : (vs : List ℕ) → length (wordsBytes vs) ≡ 4 * length vs
-unfolding wordsBytes
-length-words [] = refl
-length-words (v ∷ vs) = omega (arith, length-append (bytes 4 v) (wordsBytes vs), length-bytes 4 v, length-words vs)
+pub length_words : (vs : List ℕ) → length (words_bytes vs) ≡ 4 * length vs
+unfolding words_bytes
+length_words [] = refl
+length_words (v ∷ vs) = omega (arith, length-append (bytes 4 v) (words_bytes vs), length_bytes 4 v, length_words vs)
 
-pub words-bytes : (vs : List ℕ) → Bytes (wordsBytes vs)
-unfolding wordsBytes
-words-bytes [] i = omega arith
-words-bytes (v ∷ vs) i = append-bytes (bytes 4 v) (wordsBytes vs) (bytes_small 4 v) (words-bytes vs) i
+pub words_bytes_lem : (vs : List ℕ) → Bytes (words_bytes vs)
+unfolding words_bytes
+words_bytes_lem [] i = omega arith
+words_bytes_lem (v ∷ vs) i = append_bytes (bytes 4 v) (words_bytes vs) (bytes_small 4 v) (words_bytes_lem vs) i
 
-pub words_more : (vs : List ℕ) (v : ℕ) → wordsBytes (vs ++ (v ∷ [])) ≡ wordsBytes vs ++ bytes 4 v
-unfolding wordsBytes
+pub words_more : (vs : List ℕ) (v : ℕ) → words_bytes (vs ++ (v ∷ [])) ≡ words_bytes vs ++ bytes 4 v
+unfolding words_bytes
 words_more [] v = append-nil (bytes 4 v)
-words_more (x ∷ vs) v = ap (λ (k : List ℕ). bytes 4 x ++ k) (words_more vs v) ∙ sym (append_assoc (bytes 4 x) (wordsBytes vs) (bytes 4 v))
+words_more (x ∷ vs) v = ap (λ (k : List ℕ). bytes 4 x ++ k) (words_more vs v) ∙ sym (append_assoc (bytes 4 x) (words_bytes vs) (bytes 4 v))
 
 -- a run of stores of them, after n and after one more
 module _ (s : List ℕ) (i : ℕ) (vs : List ℕ) (fits : i + 4 * length vs ≤ length s) where
-  pub words-next : (n : ℕ) {one two : List ℕ} → n < length vs → one ≡ put s i (wordsBytes (take n vs))
-      → two ≡ put one (i + 4 * n) (bytes 4 (get_or vs n 0)) → two ≡ put s i (wordsBytes (take (n + 1) vs))
-  words-next n {one} {two} h p q =
-      let front = wordsBytes (take n vs) in
-      let l : length front ≡ 4 * n = omega (arith, length-words (take n vs), length-take-le n vs (omega arith)) in
+  pub words_next : (n : ℕ) {one two : List ℕ} → n < length vs → one ≡ put s i (words_bytes (take n vs))
+      → two ≡ put one (i + 4 * n) (bytes 4 (get_or vs n 0)) → two ≡ put s i (words_bytes (take (n + 1) vs))
+  words_next n {one} {two} h p q =
+      let front = words_bytes (take n vs) in
+      let l : length front ≡ 4 * n = omega (arith, length_words (take n vs), length-take-le n vs (omega arith)) in
       let next = bytes 4 (get_or vs n 0) in
-      let e : wordsBytes (take (n + 1) vs) ≡ front ++ next = rw (add-one, take-suc vs n 0 h) (words_more (take n vs) (get_or vs n 0)) in
+      let e : words_bytes (take (n + 1) vs) ≡ front ++ next = rw (add-one, take-suc vs n 0 h) (words_more (take n vs) (get_or vs n 0)) in
       q
       ∙ ap (λ (x : List ℕ). put x (i + 4 * n) next) p
       ∙ ap (λ (k : ℕ). put (put s i front) (i + k) next) (sym l)
-      ∙ put-more s i front next (omega (arith, length-bytes 4 (get_or vs n 0)))
+      ∙ put_more s i front next (omega (arith, length_bytes 4 (get_or vs n 0)))
       ∙ ap (λ (x : List ℕ). put s i x) (sym e)
 
-  pub words-none : s ≡ put s i (wordsBytes (take 0 vs))
-  unfolding wordsBytes
-  words-none = put-none s i
+  pub words_none : s ≡ put s i (words_bytes (take 0 vs))
+  unfolding words_bytes
+  words_none = put_none s i
 
-  pub words-whole : (n : ℕ) {one : List ℕ} → length vs ≤ n → one ≡ put s i (wordsBytes (take n vs)) → one ≡ put s i (wordsBytes vs)
-  words-whole n {one} h p = p ∙ ap (λ (x : List ℕ). put s i (wordsBytes x)) (take_all n vs h)
+  pub words_whole : (n : ℕ) {one : List ℕ} → length vs ≤ n → one ≡ put s i (words_bytes (take n vs)) → one ≡ put s i (words_bytes vs)
+  words_whole n {one} h p = p ∙ ap (λ (x : List ℕ). put s i (words_bytes x)) (take_all n vs h)
 
 -- ---- read back
 -- each of a list of numbers fits 32 bits
@@ -104,31 +104,31 @@ Reads s b o (v ∷ vs) = (le 4 s (b + o) ≡ v) × Reads s b (o + 4) vs
 pub number_at : (n : ℕ) (s : List ℕ) (o v : ℕ) (rest : List ℕ) → v < 256 ^ n → drop o s ≡ bytes n v ++ rest → le n s o ≡ v
 number_at n s o v rest small e =
     le_same n s (bytes n v) o 0 (λ k lt.
-    let inside : k < length (bytes n v) = omega (arith, length-bytes n v) in
+    let inside : k < length (bytes n v) = omega (arith, length_bytes n v) in
     sym (get_or-drop o s k 0) ∙ ap (λ (l : List ℕ). get_or l k 0) e ∙ get_or-append (bytes n v) rest 0 k inside ∙ simp zero-add)
-    ∙ le-of-bytes n v small
+    ∙ le_of_bytes n v small
 
 -- what is written is read
-pub words-read : (vs s : List ℕ) (b o : ℕ) (rest : List ℕ) → Fit vs → drop (b + o) s ≡ wordsBytes vs ++ rest → Reads s b o vs
-unfolding wordsBytes
-words-read [] s b o rest fit e = tt
-words-read (v ∷ vs) s b o rest fit e =
-    let first : drop (b + o) s ≡ bytes 4 v ++ (wordsBytes vs ++ rest) = e ∙ append_assoc (bytes 4 v) (wordsBytes vs) rest in
-    let more : drop (b + (o + 4)) s ≡ wordsBytes vs ++ rest =
+pub words_read : (vs s : List ℕ) (b o : ℕ) (rest : List ℕ) → Fit vs → drop (b + o) s ≡ words_bytes vs ++ rest → Reads s b o vs
+unfolding words_bytes
+words_read [] s b o rest fit e = tt
+words_read (v ∷ vs) s b o rest fit e =
+    let first : drop (b + o) s ≡ bytes 4 v ++ (words_bytes vs ++ rest) = e ∙ append_assoc (bytes 4 v) (words_bytes vs) rest in
+    let more : drop (b + (o + 4)) s ≡ words_bytes vs ++ rest =
     ap (λ (k : ℕ). drop k s) (sym (add_assoc b o 4))
     ∙ sym (drop-drop 4 (b + o) s)
     ∙ ap (λ (l : List ℕ). drop 4 l) first
-    ∙ drop_at (bytes 4 v) (wordsBytes vs ++ rest) 4 (length-bytes 4 v) in
-    (number_at 4 s (b + o) v (wordsBytes vs ++ rest) fit.0 first, words-read vs s b (o + 4) rest fit.1 more)
+    ∙ drop_at (bytes 4 v) (words_bytes vs ++ rest) 4 (length_bytes 4 v) in
+    (number_at 4 s (b + o) v (words_bytes vs ++ rest) fit.0 first, words_read vs s b (o + 4) rest fit.1 more)
 
 -- and what is read is what is written
-pub words-written : (vs s : List ℕ) (b o : ℕ) → Bytes s → b + o + 4 * length vs ≤ length s → Reads s b o vs
-    → drop (b + o) s ≡ wordsBytes vs ++ drop (b + o + 4 * length vs) s
-unfolding wordsBytes
-words-written [] s b o small h r = ap (λ (k : ℕ). drop k s) (sym (add-zero (b + o)))
-words-written (v ∷ vs) s b o small h r =
+pub words_written : (vs s : List ℕ) (b o : ℕ) → Bytes s → b + o + 4 * length vs ≤ length s → Reads s b o vs
+    → drop (b + o) s ≡ words_bytes vs ++ drop (b + o + 4 * length vs) s
+unfolding words_bytes
+words_written [] s b o small h r = ap (λ (k : ℕ). drop k s) (sym (add-zero (b + o)))
+words_written (v ∷ vs) s b o small h r =
     let at : b + o + 4 ≡ b + (o + 4) = omega arith in
     let end : b + (o + 4) + 4 * length vs ≡ b + o + 4 * suc (length vs) = omega arith in
-    drop-number 4 s (b + o) small (omega arith)
-    ∙ rw (r.0, at, words-written vs s b (o + 4) small (omega arith) r.1, end)
-    (sym (append_assoc (bytes 4 v) (wordsBytes vs) (drop (b + o + 4 * suc (length vs)) s)))
+    drop_number 4 s (b + o) small (omega arith)
+    ∙ rw (r.0, at, words_written vs s b (o + 4) small (omega arith) r.1, end)
+    (sym (append_assoc (bytes 4 v) (words_bytes vs) (drop (b + o + 4 * suc (length vs)) s)))

@@ -20,8 +20,8 @@ abbrev pub range_of : Span → Range
 range_of p = range p.start p.end
 
 -- the part that stands for none
-abbrev pub emptyAtStart : Range
-emptyAtStart = range 0 0
+abbrev pub empty_at_start : Range
+empty_at_start = range 0 0
 
 -- it lies in s
 pub record Lies (s : List ℕ) (p : Range) : Type 0 where
@@ -29,12 +29,12 @@ pub record Lies (s : List ℕ) (p : Range) : Type 0 where
   pub inside : p.end ≤ length s
 
 -- how many bytes of s are in it
-abbrev pub lengthIn : (s : List ℕ) → Range → ℕ
-lengthIn s p = length (part s p.start p.end)
+abbrev pub length_in : (s : List ℕ) → Range → ℕ
+length_in s p = length (part s p.start p.end)
 
 -- the two numbers that C is given of it (X6)
-abbrev pub startAndLength : (s : List ℕ) → Range → List ℕ
-startAndLength s p = p.start ∷ lengthIn s p ∷ []
+abbrev pub start_and_length : (s : List ℕ) → Range → List ℕ
+start_and_length s p = p.start ∷ length_in s p ∷ []
 
 -- the slice r is the part of the slice s of bytes in the range, by its bytes and by its place in memory. ptr is a
 -- reference's pointer: .0 the block of memory, .1 the byte offset in it. So an empty part has a place too

@@ -8,28 +8,28 @@ use Rattle.refusals.specs.Number.{number_of}
 use Rattle.refusals.specs.declared.Refusal.{Refusal}
 use Rattle.refusals.specs.declared.Refusal.TheVariants.{TotalZero, NoPlace}
 use Rattle.gather_descriptors.specs.Reading.{Reading, refused, whole, reading}
-use Rattle.gather_place.specs.Place.{placeFor}
+use Rattle.gather_place.specs.Place.{place_for}
 use Rattle.gather_place.specs.declared.Place.TheVariants.{At, Nowhere}
 use Rattle.gather_blocks.specs.Blocks.{blocks}
-use Rattle.gather.specs.Gather.{refusal, place, copiedTo, finished, gathered}
+use Rattle.gather.specs.Gather.{refusal, place, copied_to, finished, gathered}
 
 module _ (w : List ℕ) (B t : ℕ) (ds : List ℕ) where
-  pub total-zero : t ≡ 0 → (refusal (number_of TotalZero), w) ≡ finished w B (whole t ds)
+  pub total_zero : t ≡ 0 → (refusal (number_of TotalZero), w) ≡ finished w B (whole t ds)
   unfolding finished
-  total-zero e = rw (eq-eqb t 0 e)
+  total_zero e = rw (eq-eqb t 0 e)
 
-  pub no_place : (t ≡ 0 → ⊥) → placeFor w B t ds ≡ Nowhere → (refusal (number_of NoPlace), w) ≡ finished w B (whole t ds)
-  unfolding finished copiedTo
+  pub no_place : (t ≡ 0 → ⊥) → place_for w B t ds ≡ Nowhere → (refusal (number_of NoPlace), w) ≡ finished w B (whole t ds)
+  unfolding finished copied_to
   no_place z e = rw (ne_eqb t 0 z, e)
 
-  pub at_place : (p : ℕ) → (t ≡ 0 → ⊥) → placeFor w B t ds ≡ At p → (place p t, put w (p - B) (blocks w B ds)) ≡ finished w B (whole t ds)
-  unfolding finished copiedTo
+  pub at_place : (p : ℕ) → (t ≡ 0 → ⊥) → place_for w B t ds ≡ At p → (place p t, put w (p - B) (blocks w B ds)) ≡ finished w B (whole t ds)
+  unfolding finished copied_to
   at_place p z e = rw (ne_eqb t 0 z, e)
 
-pub list-refused : (w : List ℕ) (B a : ℕ) (n : Refusal) → reading w B a ≡ refused n → (refusal (number_of n), w) ≡ gathered w B a
+pub list_refused : (w : List ℕ) (B a : ℕ) (n : Refusal) → reading w B a ≡ refused n → (refusal (number_of n), w) ≡ gathered w B a
 unfolding gathered finished
-list-refused w B a n e = rw e
+list_refused w B a n e = rw e
 
-pub list-whole : (w : List ℕ) (B a : ℕ) (X : Reading) → reading w B a ≡ X → finished w B X ≡ gathered w B a
+pub list_whole : (w : List ℕ) (B a : ℕ) (X : Reading) → reading w B a ≡ X → finished w B X ≡ gathered w B a
 unfolding gathered
-list-whole w B a X e = rw e
+list_whole w B a X e = rw e

@@ -6,7 +6,7 @@ use Rattle.fields.specs.Number.{put}
 use Rattle.refusals.specs.Number.{number_of}
 use Rattle.refusals.specs.declared.Refusal.TheVariants.{TotalZero, NoPlace}
 use Rattle.gather_descriptors.specs.Reading.{Reading, refused, whole, reading}
-use Rattle.gather_place.specs.Place.{placeFor}
+use Rattle.gather_place.specs.Place.{place_for}
 use Rattle.gather_place.specs.declared.Place.{Place}
 use Rattle.gather_place.specs.declared.Place.TheVariants.{At, Nowhere}
 use Rattle.gather_blocks.specs.Blocks.{blocks}
@@ -24,15 +24,15 @@ answer_of (Refused n) = refusal (number_of n)
 answer_of (Placed p total) = place p total
 
 -- a place: the blocks go there, and every byte outside it stays (G13, G14). None: N7, and no byte altered
-unfoldable pub copiedTo : Place → List ℕ → ℕ → ℕ → List ℕ → Answer × List ℕ
-copiedTo (At p) w B total ds = (place p total, put w (p - B) (blocks w B ds))
-copiedTo Nowhere w B total ds = (refusal (number_of NoPlace), w)
+unfoldable pub copied_to : Place → List ℕ → ℕ → ℕ → List ℕ → Answer × List ℕ
+copied_to (At p) w B total ds = (place p total, put w (p - B) (blocks w B ds))
+copied_to Nowhere w B total ds = (refusal (number_of NoPlace), w)
 
 -- a list that was refused: its number, and no byte altered. A list read whole: N6, then N7
 unfoldable pub finished : List ℕ → ℕ → Reading → Answer × List ℕ
 finished w B (refused n) = (refusal (number_of n), w)
 finished w B (whole total ds) =
-    cond (eqb total 0) (refusal (number_of TotalZero), w) (copiedTo (placeFor w B total ds) w B total ds)
+    cond (eqb total 0) (refusal (number_of TotalZero), w) (copied_to (place_for w B total ds) w B total ds)
 
 -- the answer, and the window afterwards
 unfoldable pub gathered : List ℕ → ℕ → ℕ → Answer × List ℕ

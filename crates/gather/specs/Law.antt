@@ -18,7 +18,7 @@ pub record Succeeded (w : List ℕ) (B first p total : ℕ) (afterwards : List �
   pub lowest : LowestFree w B total descriptors p
   pub size : length (blocks w B descriptors) ≡ total
   -- the window afterwards: as long as before, at the place the blocks' bytes, every other byte as it was
-  pub length-kept : length afterwards ≡ length w
+  pub length_kept : length afterwards ≡ length w
   pub at_place : (k : ℕ) → k < total → get_or afterwards (p - B + k) 0 ≡ get_or (blocks w B descriptors) k 0
   pub outside : (i : ℕ) → (i < p - B) ⊎ (p - B + total ≤ i) → get_or afterwards i 0 ≡ get_or w i 0
 

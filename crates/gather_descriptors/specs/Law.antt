@@ -3,7 +3,7 @@
 use Rattle.std.specs.Prelude.{ℕ, ◌+◌, ◌^◌, ◌%◌, ◌≤◌, ◌<◌, List, [], ◌∷◌, ◌⊎◌, ◌≡◌, length, get_or}
 use Rattle.refusals.specs.declared.Refusal.{Refusal}
 use Rattle.refusals.specs.declared.Refusal.TheVariants.{WindowEnd, DescriptorCount, DescriptorAddress, BlockOutside, TotalLength}
-use Rattle.gather_descriptors.specs.Reading.{refused, whole, reading, length_of, address_of, descriptorLimit, totalLimit}
+use Rattle.gather_descriptors.specs.Reading.{refused, whole, reading, length_of, address_of, descriptor_limit, total_limit}
 use Rattle.gather_descriptors.specs.Scratch.{lengths}
 
 -- n bytes at the address a lie in the window, or not all of them (G8)
@@ -16,7 +16,7 @@ Outside w B a n = (a < B) ⊎ (B + length w < a + n)
 -- the descriptor at a leads to b: behind a data block the next stands 16 bytes on, a jump goes to its Address (G3, G4,
 -- G6)
 pub data Link (w : List ℕ) (B a b : ℕ) : Type 0 where
-  past-block : 0 < length_of w B a → b ≡ a + 16 → Link w B a b
+  past_block : 0 < length_of w B a → b ≡ a + 16 → Link w B a b
   by_jump : length_of w B a ≡ 0 → 0 < address_of w B a → b ≡ address_of w B a → Link w B a b
 
 -- the descriptors from a on, each leading to the next and the last of them to b. So none of them is the end
@@ -44,32 +44,32 @@ pub record Faultless (w : List ℕ) (B first : ℕ) (ds : List ℕ) : Type 0 whe
   pub chain : Chain w B first ds
   pub placed : Placed w B ds
   -- how many descriptors there are (G9)
-  pub count : length ds ≤ descriptorLimit
+  pub count : length ds ≤ descriptor_limit
   -- what their lengths add up to (G10)
-  pub total : lengths w B ds ≤ totalLimit
+  pub total : lengths w B ds ≤ total_limit
 
 -- a faultless beginning of a list: the descriptors ds, none of them the end, and the address of the one that comes next
 pub record Beginning (w : List ℕ) (B first : ℕ) (ds : List ℕ) (next : ℕ) : Type 0 where
   pub window : B + length w ≤ 2 ^ 64
   pub links : Links w B first ds next
   pub placed : Placed w B ds
-  pub count : length ds ≤ descriptorLimit
-  pub total : lengths w B ds ≤ totalLimit
+  pub count : length ds ≤ descriptor_limit
+  pub total : lengths w B ds ≤ total_limit
 
 -- the first fault of the descriptor at a, behind `read` others whose lengths add up to total: count, address, block,
 -- total (N108)
 pub data Fault (w : List ℕ) (B read total a : ℕ) : Refusal → Type 0 where
   -- N2: a 257th descriptor
-  too_many : read ≡ descriptorLimit → Fault w B read total a DescriptorCount
+  too_many : read ≡ descriptor_limit → Fault w B read total a DescriptorCount
   -- N3: its address
-  unaligned : read < descriptorLimit → 0 < a % 8 → Fault w B read total a DescriptorAddress
-  not-inside : read < descriptorLimit → Outside w B a 16 → Fault w B read total a DescriptorAddress
+  unaligned : read < descriptor_limit → 0 < a % 8 → Fault w B read total a DescriptorAddress
+  not_inside : read < descriptor_limit → Outside w B a 16 → Fault w B read total a DescriptorAddress
   -- N4: its block
-  block-outside : read < descriptorLimit → a % 8 ≡ 0 → Inside w B a 16 → 0 < length_of w B a
+  block_outside : read < descriptor_limit → a % 8 ≡ 0 → Inside w B a 16 → 0 < length_of w B a
       → Outside w B (address_of w B a) (length_of w B a) → Fault w B read total a BlockOutside
   -- N5: the total
-  total-passed : read < descriptorLimit → a % 8 ≡ 0 → Inside w B a 16 → 0 < length_of w B a
-      → Inside w B (address_of w B a) (length_of w B a) → totalLimit < total + length_of w B a → Fault w B read total a TotalLength
+  total_passed : read < descriptor_limit → a % 8 ≡ 0 → Inside w B a 16 → 0 < length_of w B a
+      → Inside w B (address_of w B a) (length_of w B a) → total_limit < total + length_of w B a → Fault w B read total a TotalLength
 
 -- the list's first fault: the window's end (N1); or a faultless beginning of the list and the fault of the descriptor
 -- behind it (N108)
@@ -90,10 +90,10 @@ pub record ComesBack (w : List ℕ) (B first : ℕ) : Type 0 where
 -- the laws of reading
 pub record ReadingLaws (w : List ℕ) (B first : ℕ) : Type 0 where
   -- a list is read whole exactly if it is faultless, and the total is what its lengths add up to
-  pub whole-only : (t : ℕ) (ds : List ℕ) → reading w B first ≡ whole t ds → Faultless w B first ds × (t ≡ lengths w B ds)
-  pub whole-there : (ds : List ℕ) → Faultless w B first ds → reading w B first ≡ whole (lengths w B ds) ds
+  pub whole_only : (t : ℕ) (ds : List ℕ) → reading w B first ≡ whole t ds → Faultless w B first ds × (t ≡ lengths w B ds)
+  pub whole_there : (ds : List ℕ) → Faultless w B first ds → reading w B first ≡ whole (lengths w B ds) ds
   -- each of 1 to 5 is given exactly if it is the first fault
-  pub refused-only : (n : Refusal) → reading w B first ≡ refused n → FirstFault w B first n
-  pub refused-there : (n : Refusal) → FirstFault w B first n → reading w B first ≡ refused n
-  -- G17; which of the two is for `refused-only` to say
+  pub refused_only : (n : Refusal) → reading w B first ≡ refused n → FirstFault w B first n
+  pub refused_there : (n : Refusal) → FirstFault w B first n → reading w B first ≡ refused n
+  -- G17; which of the two is for `refused_only` to say
   pub loop : ComesBack w B first → (reading w B first ≡ refused DescriptorCount) ⊎ (reading w B first ≡ refused TotalLength)

@@ -3,7 +3,7 @@
 use Rattle.std.specs.Prelude.{ℕ, zero, suc, ◌+◌, Bool, true, false, cond, List, [], ◌∷◌, leb, eqb, length}
 use Rattle.refusals.specs.declared.Refusal.{Refusal}
 use Rattle.refusals.specs.declared.Refusal.TheVariants.{WindowEnd, DescriptorCount, DescriptorAddress, BlockOutside, TotalLength}
-use Rattle.gather_window.specs.Window.{pastEnd, within, descriptorFits, number64}
+use Rattle.gather_window.specs.Window.{past_window_end, within, descriptor_fits, number64}
 
 -- a descriptor's Length and Address (G2)
 unfoldable pub length_of : List ℕ → ℕ → ℕ → ℕ
@@ -13,12 +13,12 @@ unfoldable pub address_of : List ℕ → ℕ → ℕ → ℕ
 address_of w B d = number64 w B (d + 8)
 
 -- how many descriptors are read at most (G9)
-abbrev pub descriptorLimit : ℕ
-descriptorLimit = 256
+abbrev pub descriptor_limit : ℕ
+descriptor_limit = 256
 
 -- how much the lengths may add up to (G10)
-abbrev pub totalLimit : ℕ
-totalLimit = 16777216
+abbrev pub total_limit : ℕ
+total_limit = 16777216
 
 -- a refusal; or the list read whole: the total, and the address of each descriptor read, in list order
 pub data Reading : Type 0 where
@@ -26,34 +26,34 @@ pub data Reading : Type 0 where
   whole : (total : ℕ) (descriptors : List ℕ) → Reading
 
 -- a reading that begins with the descriptor at d and goes on as the rest does
-unfoldable pub withDescriptor : ℕ → Reading → Reading
-withDescriptor d (refused n) = refused n
-withDescriptor d (whole total ds) = whole total (d ∷ ds)
+unfoldable pub with_descriptor : ℕ → Reading → Reading
+with_descriptor d (refused n) = refused n
+with_descriptor d (whole total ds) = whole total (d ∷ ds)
 
 -- a data block (G3): block (N4), then total (N5). Blocks may share bytes (G11), so nothing else is tested. next reads
 -- on with the new total
-unfoldable pub dataBlock : (B N address size total : ℕ) (next : ℕ → Reading) → Reading
-dataBlock B N address size total next =
+unfoldable pub data_block : (B N address size total : ℕ) (next : ℕ → Reading) → Reading
+data_block B N address size total next =
     cond (within B N address size)
-    (cond (leb (total + size) totalLimit) (next (total + size)) (refused TotalLength))
+    (cond (leb (total + size) total_limit) (next (total + size)) (refused TotalLength))
     (refused BlockOutside)
 
 -- a jump or the end (G4, G5). next reads on at an address
-unfoldable pub jumpOrEnd : (address total : ℕ) (next : ℕ → Reading) → Reading
-jumpOrEnd address total next = cond (eqb address 0) (whole total []) (next address)
+unfoldable pub jump_or_end : (address total : ℕ) (next : ℕ → Reading) → Reading
+jump_or_end address total next = cond (eqb address 0) (whole total []) (next address)
 
 -- the list in turns (G6), each descriptor tested in the order of N108. left is how many descriptors may still be read,
 -- a the next one's address, total what the blocks before it add up to
 unfoldable pub walk : (left : ℕ) (w : List ℕ) (B a total : ℕ) → Reading
 walk zero w B a total = refused DescriptorCount
 walk (suc left) w B a total =
-    cond (descriptorFits B (length w) a)
-    (withDescriptor a
+    cond (descriptor_fits B (length w) a)
+    (with_descriptor a
     (cond (eqb (length_of w B a) 0)
-    (jumpOrEnd (address_of w B a) total (λ next. walk left w B next total))
-    (dataBlock B (length w) (address_of w B a) (length_of w B a) total (walk left w B (a + 16)))))
+    (jump_or_end (address_of w B a) total (λ next. walk left w B next total))
+    (data_block B (length w) (address_of w B a) (length_of w B a) total (walk left w B (a + 16)))))
     (refused DescriptorAddress)
 
 -- the whole list, from the first descriptor's address on; the window first (N1)
 unfoldable pub reading : List ℕ → ℕ → ℕ → Reading
-reading w B first = cond (pastEnd B (length w)) (refused WindowEnd) (walk descriptorLimit w B first 0)
+reading w B first = cond (past_window_end B (length w)) (refused WindowEnd) (walk descriptor_limit w B first 0)

@@ -1,7 +1,7 @@
 // The scattered list of descriptors (G2 to G11): refusals 1 to 5. The code goes by offsets in the window, the
 // definitions by addresses (crate gather_window).
 ghost use Rattle.std.specs.Prelude.{◌≡◌, ◌+◌, ◌-◌, ◌^◌, ◌≤◌, length};
-ghost use Rattle.gather_descriptors.specs.Reading.{jumpOrEnd, walk, reading};
+ghost use Rattle.gather_descriptors.specs.Reading.{jump_or_end, walk, reading};
 ghost use Rattle.gather_descriptors.specs.Scratch.{ScratchHolds};
 
 use fields::read64;
@@ -69,7 +69,7 @@ fn jump(
     ds: &mut [u64; DESCRIPTOR_LIMIT],
 ) -> Read
     requires { (left ≤ 256) × (total ≤ 16777216) × (base + length w.now ≤ 2 ^ 64) × (length ds.old ≡ 256) }
-    ensures { ScratchHolds (jumpOrEnd address total (λ next. walk left w.now base next total))
+    ensures { ScratchHolds (jump_or_end address total (λ next. walk left w.now base next total))
         (256 - left) ds.old ds.new result }
 {
     if address == 0 {

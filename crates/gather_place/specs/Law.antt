@@ -1,4 +1,4 @@
--- The rule on the place (G12) without any search: what `placeFor` is proved to mean where the total is above 0
+-- The rule on the place (G12) without any search: what `place_for` is proved to mean where the total is above 0
 -- (proofs/Law.antt). Names as in specs/Place.antt. Assumes nothing.
 use Rattle.std.specs.Prelude.{ℕ, ◌+◌, ◌≤◌, ◌<◌, List, length, get_or}
 use Rattle.gather_descriptors.specs.Reading.{length_of, address_of}
@@ -22,7 +22,7 @@ pub record Free (w : List ℕ) (B t : ℕ) (ds : List ℕ) (p : ℕ) : Type 0 wh
 -- the lowest such start
 pub record LowestFree (w : List ℕ) (B t : ℕ) (ds : List ℕ) (p : ℕ) : Type 0 where
   pub free : Free w B t ds p
-  pub none-lower : (q : ℕ) → q < p → Free w B t ds q → ⊥
+  pub none_lower : (q : ℕ) → q < p → Free w B t ds q → ⊥
 
 -- no such start exists (N7)
 abbrev pub NoneFree : List ℕ → ℕ → ℕ → List ℕ → Type 0

@@ -12,17 +12,17 @@ unfoldable pub apart : ℕ → ℕ → ℕ → ℕ → Bool
 apart p t s n = leb (p + t) s || leb (s + n) p
 
 -- the t bytes at p share none with the descriptor at d, nor with its block, if it has one
-unfoldable pub clearOf : List ℕ → ℕ → ℕ → ℕ → ℕ → Bool
-clearOf w B t p d = apart p t d 16 && (eqb (length_of w B d) 0 || apart p t (address_of w B d) (length_of w B d))
+unfoldable pub clear_of : List ℕ → ℕ → ℕ → ℕ → ℕ → Bool
+clear_of w B t p d = apart p t d 16 && (eqb (length_of w B d) 0 || apart p t (address_of w B d) (length_of w B d))
 
 -- the same for all descriptors read
-unfoldable pub clearOfAll : List ℕ → ℕ → ℕ → ℕ → List ℕ → Bool
-clearOfAll w B t p [] = true
-clearOfAll w B t p (d ∷ ds) = clearOf w B t p d && clearOfAll w B t p ds
+unfoldable pub clear_of_all : List ℕ → ℕ → ℕ → ℕ → List ℕ → Bool
+clear_of_all w B t p [] = true
+clear_of_all w B t p (d ∷ ds) = clear_of w B t p d && clear_of_all w B t p ds
 
 -- the t bytes at p lie in the window and share none with a block or a descriptor read
 unfoldable pub free : List ℕ → ℕ → ℕ → List ℕ → ℕ → Bool
-free w B t ds p = within B (length w) p t && clearOfAll w B t p ds
+free w B t ds p = within B (length w) p t && clear_of_all w B t p ds
 
 -- the lowest of the k starts from p up that passes the test, if one does
 unfoldable pub lowest : ℕ → ℕ → (ℕ → Bool) → Place
@@ -30,5 +30,5 @@ lowest zero p test = Nowhere
 lowest (suc k) p test = cond (test p) (At p) (lowest k (p + 1) test)
 
 -- the lowest of the starts from the window's first address to its end, since no other lies in the window
-unfoldable pub placeFor : List ℕ → ℕ → ℕ → List ℕ → Place
-placeFor w B t ds = lowest (suc (length w)) B (free w B t ds)
+unfoldable pub place_for : List ℕ → ℕ → ℕ → List ℕ → Place
+place_for w B t ds = lowest (suc (length w)) B (free w B t ds)

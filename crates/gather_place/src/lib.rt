@@ -3,7 +3,7 @@
 // and descriptors are tried, each once: at most 512 starts (G16).
 ghost use Rattle.std.specs.Prelude.{◌≡◌, not, ◌+◌, ◌^◌, ◌≤◌, ◌<◌, length, take};
 ghost use Rattle.gather_descriptors.specs.Scratch.{Readable, AllReadable};
-ghost use Rattle.gather_place.specs.Place.{apart, clearOf, clearOfAll, placeFor};
+ghost use Rattle.gather_place.specs.Place.{apart, clear_of, clear_of_all, place_for};
 ghost use Rattle.gather_place.specs.Search.{NextStart};
 
 use fields::read64;
@@ -34,7 +34,7 @@ fn share(p: usize, t: usize, s: usize, n: usize) -> bool
 // Else 0.
 fn shared_end(w: &[u8], base: u64, d: u64, p: usize, t: usize) -> usize
     requires { Readable w.now base d × (p + t ≤ length w.now) }
-    ensures { NextStart (λ q. clearOf w.now base t (base + q) d) (length w.now) p result }
+    ensures { NextStart (λ q. clear_of w.now base t (base + q) d) (length w.now) p result }
 {
     let at = (d - base) as usize;
     if share(p, t, at, 16) {
@@ -62,7 +62,7 @@ fn next_start(
     t: usize,
 ) -> usize
     requires { (count ≤ 256) × (length ds.now ≡ 256) × AllReadable w.now base ds.now count × (p + t ≤ length w.now) }
-    ensures { NextStart (λ q. clearOfAll w.now base t (base + q) (take count ds.now))
+    ensures { NextStart (λ q. clear_of_all w.now base t (base + q) (take count ds.now))
         (length w.now) p result }
 {
     let mut i = 0;
@@ -86,7 +86,7 @@ pub fn find_place(
 ) -> Place
     requires { (count ≤ 256) × (length ds.now ≡ 256) × AllReadable w.now base ds.now count
         × (base + length w.now ≤ 2 ^ 64) × (0 < t) }
-    ensures { result ≡ placeFor w.now base t (take count ds.now) }
+    ensures { result ≡ place_for w.now base t (take count ds.now) }
 {
     let n = w.len();
     let mut p = 0;

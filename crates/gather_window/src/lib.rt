@@ -1,11 +1,11 @@
 // The memory window (G1): what lies in it. Addresses can reach 2^64, so the code goes by offsets in the window; the
 // definitions go by addresses.
 ghost use Rattle.std.specs.Prelude.{◌≡◌, ◌+◌, not};
-ghost use Rattle.gather_window.specs.Window.{pastEnd, within, descriptorFits};
+ghost use Rattle.gather_window.specs.Window.{past_window_end, within, descriptor_fits};
 
 // Whether the window ends at or below 2^64 (N1).
 pub fn window_fits(base: u64, len: usize) -> bool
-    ensures { result ≡ not (pastEnd base len) }
+    ensures { result ≡ not (past_window_end base len) }
 {
     if len == 0 {
         return true;
@@ -34,7 +34,7 @@ pub fn block_fits(base: u64, len: usize, address: u64, size: u64) -> bool
 
 // Whether a descriptor may stand at the offset `at`: its address, not its offset, is a multiple of 8 (G7).
 pub fn descriptor_fits(base: u64, len: usize, at: usize) -> bool
-    ensures { result ≡ descriptorFits base len (base + at) }
+    ensures { result ≡ descriptor_fits base len (base + at) }
 {
     if len < 16 {
         return false;

@@ -6,16 +6,16 @@
 use Rattle.std.specs.Prelude.{ℕ, ◌≡◌, false, cond, List}
 use Rattle.fields.specs.Number.{Bytes}
 use Rattle.record_layout.specs.Layout.{active}
-use Rattle.record_layout.specs.Rules.{allAccepted}
+use Rattle.record_layout.specs.Rules.{all_accepted}
 use Rattle.refusal_order.specs.Decide.{passed, gives}
-use Rattle.update_changes.specs.NewRecord.{updateBankOf, imageWith}
-use Rattle.update_changes.specs.Changed.{Call, begin, commit, end, cancel, accept, selectPrevious, changeOf, newRecord}
+use Rattle.update_changes.specs.NewRecord.{update_bank_of, image_with}
+use Rattle.update_changes.specs.Changed.{Call, begin, commit, end, cancel, accept, select_previous, change_of, new_record}
 use Rattle.proof_kept_sound.specs.Kept.{Kept}
-use Rattle.proof_kept_sound.specs.Fields.{fields_of, fieldsAfter, FieldsAre}
+use Rattle.proof_kept_sound.specs.Fields.{fields_of, fields_after, FieldsAre}
 use Rattle.update_session.specs.declared.Session.{Session}
 use Rattle.update_session.specs.declared.Session.TheVariants.{Regular, Trial}
-use Rattle.update_session.specs.Calls.{Result, held, stagingTest, afterAccept, nextSession, answered}
-use Rattle.update_start_up.specs.StartUp.{startedSession, startedFrom}
+use Rattle.update_session.specs.Calls.{Result, held, staging_test, after_accept, next_session, answered}
+use Rattle.update_start_up.specs.StartUp.{started_session, started_from}
 
 -- the answer is no refusal
 abbrev pub Passed : Result → Type 0
@@ -24,23 +24,23 @@ Passed x = x.0.1 ≡ passed
 -- the session that a start-up in the active bank gives after the call: after End by the bank that was staged, after
 -- Accept the very session that Accept answers, after Select previous Regular; Begin, Commit and Cancel leave the active
 -- bank as it was
-abbrev pub startedAfter : Call → (r : List ℕ) → Session
-startedAfter begin r = startedSession r (active r)
-startedAfter (commit g request) r = startedSession r (active r)
-startedAfter end r = cond (allAccepted r (updateBankOf r)) Regular Trial
-startedAfter cancel r = startedSession r (active r)
-startedAfter (accept g) r = afterAccept (imageWith g r) r
-startedAfter selectPrevious r = Regular
+abbrev pub started_after : Call → (r : List ℕ) → Session
+started_after begin r = started_session r (active r)
+started_after (commit g request) r = started_session r (active r)
+started_after end r = cond (all_accepted r (update_bank_of r)) Regular Trial
+started_after cancel r = started_session r (active r)
+started_after (accept g) r = after_accept (image_with g r) r
+started_after select_previous r = Regular
 
 --     kept       the new record is sound, bytes, and as long as the old one
 --     makes      what it is, field by field: what the call's rule alters, and every other byte but the CRC's as it was
---     no-fault   24 is not given to a call with the session answered, on the new record
+--     no_fault   24 is not given to a call with the session answered, on the new record
 --     starts     start-up in the bank that the new record names as active
 pub record Tells (k : Call) (q : Session) (r : List ℕ) : Type 0 where
-  pub kept : Kept r (newRecord k r)
-  pub makes : FieldsAre r (newRecord k r) (fieldsAfter (changeOf k r) r (fields_of r))
-  pub no-fault : (stagingTest (nextSession k q r) (newRecord k r)).0 ≡ false
-  pub starts : startedFrom (newRecord k r) (active (newRecord k r)) ≡ gives (startedAfter k r)
+  pub kept : Kept r (new_record k r)
+  pub makes : FieldsAre r (new_record k r) (fields_after (change_of k r) r (fields_of r))
+  pub no_fault : (staging_test (next_session k q r) (new_record k r)).0 ≡ false
+  pub starts : started_from (new_record k r) (active (new_record k r)) ≡ gives (started_after k r)
 
 abbrev pub CallResults : Type 0
 CallResults = (k : Call) (q : Session) (a s : List ℕ) → Bytes a → Passed (answered k q a s) → Tells k q (held a)

@@ -4,21 +4,21 @@ use Rattle.std.specs.Prelude.{ℕ, ◌≡◌, refl, List, [], ◌∷◌, ◌++�
 use Rattle.fields.specs.Number.{le, bytes}
 use Rattle.fields.specs.Guid.{guid, same}
 use Rattle.refusals.specs.declared.Refusal.TheVariants.{NoItem}
-use Rattle.capsule_header.specs.Header.{headerSize, flags, capsuleImageSize, sizesRight, flagsRight, fmpGuid, guidRight, body}
-use Rattle.capsule_payloads.specs.Payload.{version, typeGuid, imageIndex, imageSize, vendorCodeSize, hardwareInstance, versionRight, headerLength, payloadRight}
-use Rattle.fields.specs.Part.{part, range, emptyAtStart}
-use Rattle.capsule_body.specs.Body.{all, bodyVersion, drivers, payloads, offset, rises, offsetRight, bodyRight, itemEnd, item}
-use Rattle.capsule_payloads.specs.Payload.{payloadAtRight, payloadsRight}
-use Rattle.refusal_order.specs.Decide.{verdictNumber}
-use Rattle.capsule_check.specs.Verdict.{verdict, itemVerdict, refusalNumber}
-use Rattle.capsule_check.specs.Item.{itemStartIn, itemEndIn, located}
+use Rattle.capsule_header.specs.Header.{header_size, flags, capsule_image_size, sizes_right, flags_right, fmp_guid, guid_right, body}
+use Rattle.capsule_payloads.specs.Payload.{version, type_guid, image_index, image_size, vendor_code_size, hardware_instance, version_right, header_length, payload_right}
+use Rattle.fields.specs.Part.{part, range, empty_at_start}
+use Rattle.capsule_body.specs.Body.{all, body_version, drivers, payloads, offset, rises, offset_right, body_right, item_end, item}
+use Rattle.capsule_payloads.specs.Payload.{payload_at_right, payloads_right}
+use Rattle.refusal_order.specs.Decide.{verdict_number}
+use Rattle.capsule_check.specs.Verdict.{verdict, item_verdict, refusal_number}
+use Rattle.capsule_check.specs.Item.{item_start_in, item_end_in, located}
 use Rattle.capsule_check.specs.declared.Item.TheVariants.{Driver, Payload, Refused}
-use Rattle.capsule_parts.specs.Parts.{imagePart, vendorCodePart}
-use Rattle.capsule_values.specs.Shown.{typeGuidOf, imageIndexOf, hardwareInstanceOf}
+use Rattle.capsule_parts.specs.Parts.{image_part, vendor_code_part}
+use Rattle.capsule_values.specs.Shown.{type_guid_of, image_index_of, hardware_instance_of}
 
 -- a header with HeaderSize h and CapsuleImageSize n, no flag set
 abbrev header : ℕ → ℕ → List ℕ
-header h n = fmpGuid ++ bytes 4 h ++ bytes 4 0 ++ bytes 4 n
+header h n = fmp_guid ++ bytes 4 h ++ bytes 4 0 ++ bytes 4 n
 
 -- one driver of 3 bytes and one payload of version 2: an image of 2 bytes, a vendor code of 1, and a spare byte
 abbrev sample : List ℕ
@@ -29,43 +29,43 @@ sample =
     ++ (0xa1 ∷ 0xa2 ∷ 0xb1 ∷ 0 ∷ [])
 
 items_of : (located sample 0 ≡ Driver 52 55) × (located sample 1 ≡ Payload 55 99) × (located sample 2 ≡ Refused NoItem)
-unfolding le bytes guid same headerSize flags capsuleImageSize sizesRight flagsRight guidRight body version imageSize vendorCodeSize versionRight headerLength payloadRight all bodyVersion drivers payloads offset rises offsetRight bodyRight itemEnd item payloadAtRight payloadsRight verdict itemVerdict itemStartIn itemEndIn located
+unfolding le bytes guid same header_size flags capsule_image_size sizes_right flags_right guid_right body version image_size vendor_code_size version_right header_length payload_right all body_version drivers payloads offset rises offset_right body_right item_end item payload_at_right payloads_right verdict item_verdict item_start_in item_end_in located
 items_of = (refl, refl, refl)
 
-driver-parts : (imagePart sample (Driver 52 55) ≡ range 52 55) × (vendorCodePart sample (Driver 52 55) ≡ range 55 55)
-driver-parts = (refl, refl)
+driver_parts : (image_part sample (Driver 52 55) ≡ range 52 55) × (vendor_code_part sample (Driver 52 55) ≡ range 55 55)
+driver_parts = (refl, refl)
 
-payload-parts : (imagePart sample (Payload 55 99) ≡ range 95 97) × (vendorCodePart sample (Payload 55 99) ≡ range 97 98)
-unfolding le bytes version imageSize vendorCodeSize headerLength
-payload-parts = (refl, refl)
+payload_parts : (image_part sample (Payload 55 99) ≡ range 95 97) × (vendor_code_part sample (Payload 55 99) ≡ range 97 98)
+unfolding le bytes version image_size vendor_code_size header_length
+payload_parts = (refl, refl)
 
-payload-shown : (typeGuidOf sample (Payload 55 99) ≡ replicate 16 7)
-    × (imageIndexOf sample (Payload 55 99) ≡ 5) × (hardwareInstanceOf sample (Payload 55 99) ≡ 9)
-unfolding le bytes guid version typeGuid imageIndex hardwareInstance
-payload-shown = (refl, refl, refl)
+payload_shown : (type_guid_of sample (Payload 55 99) ≡ replicate 16 7)
+    × (image_index_of sample (Payload 55 99) ≡ 5) × (hardware_instance_of sample (Payload 55 99) ≡ 9)
+unfolding le bytes guid version type_guid image_index hardware_instance
+payload_shown = (refl, refl, refl)
 
 -- the bytes that are handed out: the image, then the vendor code
-payload-bytes : (part sample 95 97 ≡ 0xa1 ∷ 0xa2 ∷ []) × (part sample 97 98 ≡ 0xb1 ∷ [])
+payload_bytes_lem : (part sample 95 97 ≡ 0xa1 ∷ 0xa2 ∷ []) × (part sample 97 98 ≡ 0xb1 ∷ [])
 unfolding bytes
-payload-bytes = (refl, refl)
+payload_bytes_lem = (refl, refl)
 
 -- the rule on flags (C4)
-flag-rule : (flagsRight 0x00040000 ≡ false) × (flagsRight 0x00050000 ≡ true)
-    × (flagsRight 0x00020000 ≡ true) × (flagsRight 0xfffeffff ≡ false)
-unfolding flagsRight
-flag-rule = (refl, refl, refl, refl)
+flag_rule : (flags_right 0x00040000 ≡ false) × (flags_right 0x00050000 ≡ true)
+    × (flags_right 0x00020000 ≡ true) × (flags_right 0xfffeffff ≡ false)
+unfolding flags_right
+flag_rule = (refl, refl, refl, refl)
 
 -- sample 12: a capsule of 27 bytes; of 28 with HeaderSize 27; else sound, with a body of 7
-sample-12 : (verdictNumber (verdict (replicate 27 0)) ≡ 10) × (verdictNumber (verdict (header 27 28)) ≡ 11)
-    × (verdictNumber (verdict (header 28 35 ++ bytes 4 1 ++ replicate 3 0)) ≡ 14)
-unfolding le bytes guid same headerSize flags capsuleImageSize sizesRight flagsRight guidRight body bodyVersion bodyRight verdict
-sample-12 = (refl, refl, refl)
+sample_12 : (verdict_number (verdict (replicate 27 0)) ≡ 10) × (verdict_number (verdict (header 27 28)) ≡ 11)
+    × (verdict_number (verdict (header 28 35 ++ bytes 4 1 ++ replicate 3 0)) ≡ 14)
+unfolding le bytes guid same header_size flags capsule_image_size sizes_right flags_right guid_right body body_version body_right verdict
+sample_12 = (refl, refl, refl)
 
 -- 13 for another GUID; 15 for item 0 and for item 9, which is past the count, where the one payload has version 3
 abbrev version3 : List ℕ
 version3 = header 28 76 ++ bytes 4 1 ++ bytes 2 0 ++ bytes 2 1 ++ bytes 8 16 ++ bytes 4 3 ++ replicate 28 0
 
-others : (verdictNumber (verdict (replicate 16 0 ++ drop 16 (header 28 28))) ≡ 13)
-    × (refusalNumber version3 0 ≡ 15) × (refusalNumber version3 9 ≡ 15)
-unfolding le bytes guid same headerSize flags capsuleImageSize sizesRight flagsRight guidRight body version imageSize vendorCodeSize versionRight headerLength payloadRight all bodyVersion drivers payloads offset rises offsetRight bodyRight itemEnd item payloadAtRight payloadsRight verdict itemVerdict
+others : (verdict_number (verdict (replicate 16 0 ++ drop 16 (header 28 28))) ≡ 13)
+    × (refusal_number version3 0 ≡ 15) × (refusal_number version3 9 ≡ 15)
+unfolding le bytes guid same header_size flags capsule_image_size sizes_right flags_right guid_right body version image_size vendor_code_size version_right header_length payload_right all body_version drivers payloads offset rises offset_right body_right item_end item payload_at_right payloads_right verdict item_verdict
 others = (refl, refl, refl)

@@ -9,55 +9,55 @@ use borrow.Author.Tests.{eq-eqb}
 use lib.ListN.{length, replicate, length-append, length-replicate}
 use lib.Seq.{take_at}
 use Rattle.fields.specs.Number.{Bytes}
-use Rattle.fields.proofs.Bytes.{append-bytes, zero-bytes}
+use Rattle.fields.proofs.Bytes.{append_bytes, zero_bytes}
 use Rattle.refusal_order.specs.Decide.{passed, decide}
-use Rattle.record_layout.specs.Layout.{areaSize, copySize, copy0, recordOf}
-use Rattle.record_layout.specs.Rules.{soundCopy}
-use Rattle.record_layout.proofs.Copies.{front-record}
-use Rattle.record_copies.specs.Copies.{source_of, readFrom, recordRead}
-use Rattle.update_admission.specs.Rows.{readTests}
-use Rattle.update_start_up.specs.StartUp.{startUpTests}
-use Rattle.proof_directory.proofs.WitnessRecord.{Wanted, Possible, size_for, witnessRecord, record-long, record-small, banks-is}
-use Rattle.proof_directory.proofs.WitnessRules.{witness-sound}
+use Rattle.record_layout.specs.Layout.{area_size, copy_size, copy0, record_of}
+use Rattle.record_layout.specs.Rules.{sound_copy}
+use Rattle.record_layout.proofs.Copies.{front_record}
+use Rattle.record_copies.specs.Copies.{source_of, read_from, record_read}
+use Rattle.update_admission.specs.Rows.{read_tests}
+use Rattle.update_start_up.specs.StartUp.{start_up_tests}
+use Rattle.proof_directory.proofs.WitnessRecord.{Wanted, Possible, size_for, witness_record, record_long, record_small, banks_is}
+use Rattle.proof_directory.proofs.WitnessRules.{witness_sound}
 
 -- the record with zeros behind it, and a second copy of zeros
 abbrev rest : Wanted → List ℕ
-rest x = replicate (copySize - size_for x) 0
+rest x = replicate (copy_size - size_for x) 0
 
-unfoldable pub witnessArea : Wanted → List ℕ
-witnessArea x = (witnessRecord x ++ rest x) ++ replicate copySize 0
+unfoldable pub witness_area : Wanted → List ℕ
+witness_area x = (witness_record x ++ rest x) ++ replicate copy_size 0
 
 module _ (x : Wanted) (p : Possible x) where
-  copy-long : length (witnessRecord x ++ rest x) ≡ copySize
-  copy-long =
-      length-append (witnessRecord x) (rest x)
-      ∙ omega (arith, length-replicate {A = ℕ} (copySize - size_for x) 0, record-long x p, p.few)
+  copy_long : length (witness_record x ++ rest x) ≡ copy_size
+  copy_long =
+      length-append (witness_record x) (rest x)
+      ∙ omega (arith, length-replicate {A = ℕ} (copy_size - size_for x) 0, record_long x p, p.few)
 
-  area-long : length (witnessArea x) ≡ areaSize
-  unfolding witnessArea
-  area-long =
-      length-append (witnessRecord x ++ rest x) (replicate copySize 0) ∙ omega (arith, copy-long, length-replicate {A = ℕ} copySize 0)
+  area_long : length (witness_area x) ≡ area_size
+  unfolding witness_area
+  area_long =
+      length-append (witness_record x ++ rest x) (replicate copy_size 0) ∙ omega (arith, copy_long, length-replicate {A = ℕ} copy_size 0)
 
-  pub area_small : Bytes (witnessArea x)
-  unfolding witnessArea
+  pub area_small : Bytes (witness_area x)
+  unfolding witness_area
   area_small =
-      append-bytes (witnessRecord x ++ rest x) (replicate copySize 0)
-      (append-bytes (witnessRecord x) (rest x) (record-small x p) (zero-bytes (copySize - size_for x))) (zero-bytes copySize)
+      append_bytes (witness_record x ++ rest x) (replicate copy_size 0)
+      (append_bytes (witness_record x) (rest x) (record_small x p) (zero_bytes (copy_size - size_for x))) (zero_bytes copy_size)
 
-  copy-record : recordOf (copy0 (witnessArea x)) ≡ witnessRecord x
-  unfolding witnessArea
-  copy-record =
-      rw (take_at (witnessRecord x ++ rest x) (replicate copySize 0) copySize copy-long)
-      (front-record (witnessRecord x) (rest x) (witness-sound x p))
+  copy_record : record_of (copy0 (witness_area x)) ≡ witness_record x
+  unfolding witness_area
+  copy_record =
+      rw (take_at (witness_record x ++ rest x) (replicate copy_size 0) copy_size copy_long)
+      (front_record (witness_record x) (rest x) (witness_sound x p))
 
-  copy-sound : soundCopy (copy0 (witnessArea x)) ≡ true
-  unfolding soundCopy
-  copy-sound = rw copy-record (witness-sound x p)
+  copy_sound : sound_copy (copy0 (witness_area x)) ≡ true
+  unfolding sound_copy
+  copy_sound = rw copy_record (witness_sound x p)
 
-  pub area-record : recordRead (witnessArea x) ≡ witnessRecord x
-  unfolding source_of readFrom
-  area-record = rw copy-sound copy-record
+  pub area_record : record_read (witness_area x) ≡ witness_record x
+  unfolding source_of read_from
+  area_record = rw copy_sound copy_record
 
-  pub area-starts : decide (startUpTests (witnessArea x) 0) ≡ passed
-  unfolding decide startUpTests readTests
-  area-starts = rw (area-record, banks-is x p, copy-sound, eq-eqb (length (witnessArea x)) areaSize area-long)
+  pub area_starts : decide (start_up_tests (witness_area x) 0) ≡ passed
+  unfolding decide start_up_tests read_tests
+  area_starts = rw (area_record, banks_is x p, copy_sound, eq-eqb (length (witness_area x)) area_size area_long)

@@ -5,118 +5,118 @@ use Prim.Native.Nat.{ℕ, ◌<◌}
 use native.Mathlib.Omega.{arith}
 use borrow.Author.Tests.{eq-eqb, le-leb, lt-ltb}
 use lib.Dec.{eqb, leb}
-use Rattle.fields.specs.Number.{le, bytes, wordsBytes}
+use Rattle.fields.specs.Number.{le, bytes, words_bytes}
 use Rattle.record_layout.specs.Every.{below}
-use Rattle.record_layout.specs.Layout.{imageLimit, crc, reserved22, state, reserved28, reserved33, typeGuid, accepted, reserved}
+use Rattle.record_layout.specs.Layout.{image_limit, crc, reserved22, state, reserved28, reserved33, type_guid, accepted, reserved}
 use Rattle.record_layout.specs.Rules as rule
-use Rattle.record_layout.specs.Rules.{everywhere, invalid, acceptedBank, sound}
-use Rattle.record_layout.proofs.Below.{below_all, below-same, distinct-same}
-use Rattle.record_layout.proofs.Sound.{bankFits, fits-ended, live-ended}
+use Rattle.record_layout.specs.Rules.{everywhere, invalid, accepted_bank, sound}
+use Rattle.record_layout.proofs.Below.{below_all, below_same, distinct_same}
+use Rattle.record_layout.proofs.Sound.{bank_fits_words, fits_ended, live_ended}
 use Rattle.proof_directory.proofs.WitnessRecord.{Wanted, Possible, banks, size_for}
-use Rattle.proof_directory.proofs.WitnessRecord.{activeFor, allFor, stateFor, crcFor, witnessRecord}
-use Rattle.proof_directory.proofs.WitnessRecord.{active-low, record-long, header_is, banks-is}
-use Rattle.proof_directory.proofs.WitnessRecord.{images-is, guid-is, bank0-is, bank1-is}
+use Rattle.proof_directory.proofs.WitnessRecord.{active_for, all_for, state_for, crc_for, witness_record}
+use Rattle.proof_directory.proofs.WitnessRecord.{active_low, record_long, header_is, banks_is}
+use Rattle.proof_directory.proofs.WitnessRecord.{images_is, guid_is, bank0_is, bank1_is}
 
 module _ (x : Wanted) (p : Possible x) where
   -- those that ask for one value
-  fixed : (rule.versionRule (witnessRecord x) ≡ true) × (rule.bankCountRule (witnessRecord x) ≡ true)
-      × (rule.bankEntrySizeRule (witnessRecord x) ≡ true) × (rule.imageEntrySizeRule (witnessRecord x) ≡ true)
-      × (rule.descriptorOffsetRule (witnessRecord x) ≡ true)
+  fixed : (rule.versionRule (witness_record x) ≡ true) × (rule.bankCountRule (witness_record x) ≡ true)
+      × (rule.bankEntrySizeRule (witness_record x) ≡ true) × (rule.imageEntrySizeRule (witness_record x) ≡ true)
+      × (rule.descriptorOffsetRule (witness_record x) ≡ true)
   unfolding rule.versionRule rule.bankCountRule rule.bankEntrySizeRule rule.imageEntrySizeRule rule.descriptorOffsetRule
-      witnessRecord wordsBytes bytes le
-  fixed = (refl, rw (banks-is x p), refl, rw (banks-is x p), refl)
+      witness_record words_bytes bytes le
+  fixed = (refl, rw (banks_is x p), refl, rw (banks_is x p), refl)
 
-  image-count-holds : rule.imageCountRule (witnessRecord x) ≡ true
+  image_count_holds : rule.imageCountRule (witness_record x) ≡ true
   unfolding rule.imageCountRule
-  image-count-holds = rw (images-is x p, le-leb 1 x.images p.some, le-leb x.images imageLimit p.few)
+  image_count_holds = rw (images_is x p, le-leb 1 x.images p.some, le-leb x.images image_limit p.few)
 
-  size_holds : rule.sizeRule (witnessRecord x) ≡ true
+  size_holds : rule.sizeRule (witness_record x) ≡ true
   unfolding rule.sizeRule
   size_holds =
-      rw ((header_is x p).1.1.1.1.0, banks-is x p, images-is x p, record-long x p, eq-eqb (size_for x) (size_for x) refl)
+      rw ((header_is x p).1.1.1.1.0, banks_is x p, images_is x p, record_long x p, eq-eqb (size_for x) (size_for x) refl)
 
   -- at both banks of each image
-  every-bank : (test : ℕ → ℕ → Bool) → ((k : ℕ) → k < x.images → test k 0 ≡ true) → ((k : ℕ) → k < x.images → test k 1 ≡ true)
-      → everywhere (witnessRecord x) test ≡ true
+  every_bank : (test : ℕ → ℕ → Bool) → ((k : ℕ) → k < x.images → test k 0 ≡ true) → ((k : ℕ) → k < x.images → test k 1 ≡ true)
+      → everywhere (witness_record x) test ≡ true
   unfolding below
-  every-bank test f g =
-      rw (images-is x p, banks-is x p) (below_all (λ k. below banks (test k)) x.images (λ k h. rw (f k h, g k h)))
+  every_bank test f g =
+      rw (images_is x p, banks_is x p) (below_all (λ k. below banks (test k)) x.images (λ k h. rw (f k h, g k h)))
 
-  header-reserved : (reserved22 (witnessRecord x) ≡ 0) × (reserved28 (witnessRecord x) ≡ 0) × (reserved33 (witnessRecord x) ≡ 0)
-  unfolding witnessRecord wordsBytes bytes le
-  header-reserved = (refl, refl, omega (arith, p.few))
+  header_reserved : (reserved22 (witness_record x) ≡ 0) × (reserved28 (witness_record x) ≡ 0) × (reserved33 (witness_record x) ≡ 0)
+  unfolding witness_record words_bytes bytes le
+  header_reserved = (refl, refl, omega (arith, p.few))
 
-  reserved-holds : rule.reservedRule (witnessRecord x) ≡ true
+  reserved_holds : rule.reservedRule (witness_record x) ≡ true
   unfolding rule.reservedRule
-  reserved-holds =
-      rw (header-reserved.0, header-reserved.1, header-reserved.2)
-      (every-bank (λ k b. eqb (reserved (witnessRecord x) k b) 0) (λ k h. rw (bank0-is x p k h).1) (λ k h. rw (bank1-is x p k h).1))
+  reserved_holds =
+      rw (header_reserved.0, header_reserved.1, header_reserved.2)
+      (every_bank (λ k b. eqb (reserved (witness_record x) k b) 0) (λ k h. rw (bank0_is x p k h).1) (λ k h. rw (bank1_is x p k h).1))
 
-  banks-named-holds : rule.banksNamedRule (witnessRecord x) ≡ true
+  banks_named_holds : rule.banksNamedRule (witness_record x) ≡ true
   unfolding rule.banksNamedRule
-  banks-named-holds =
+  banks_named_holds =
       let h = (header_is x p).1.1 in
-      rw (h.0, h.1.0, banks-is x p, lt-ltb (activeFor x) banks (omega (arith, active-low x.right)))
+      rw (h.0, h.1.0, banks_is x p, lt-ltb (active_for x) banks (omega (arith, active_low x.right)))
 
-  accepted-holds : rule.acceptedRule (witnessRecord x) ≡ true
+  accepted_holds : rule.acceptedRule (witness_record x) ≡ true
   unfolding rule.acceptedRule
-  accepted-holds =
-      every-bank (λ k b. leb (accepted (witnessRecord x) k b) 1)
-      (λ k h. rw (bank0-is x p k h).0 (le-leb (x.flags k) 1 (p.flags-low k h))) (λ k h. rw (bank1-is x p k h).0)
+  accepted_holds =
+      every_bank (λ k b. leb (accepted (witness_record x) k b) 1)
+      (λ k h. rw (bank0_is x p k h).0 (le-leb (x.flags k) 1 (p.flags_low k h))) (λ k h. rw (bank1_is x p k h).0)
 
-  type-guids-holds : rule.typeGuidsRule (witnessRecord x) ≡ true
+  type_guids_holds : rule.typeGuidsRule (witness_record x) ≡ true
   unfolding rule.typeGuidsRule
-  type-guids-holds =
-      rw (images-is x p)
-      (distinct-same x.images (typeGuid (witnessRecord x)) x.guids (guid-is x p) ∙ p.guids-differ)
+  type_guids_holds =
+      rw (images_is x p)
+      (distinct_same x.images (type_guid (witness_record x)) x.guids (guid_is x p) ∙ p.guids_differ)
 
   -- by whether all are accepted in bank 0
-  states-with : (b : Bool) → allFor x ≡ b
-      → (state (witnessRecord x) 0 ≡ stateFor x) × (state (witnessRecord x) 1 ≡ acceptedBank) × (rule.statesRule (witnessRecord x) ≡ true)
-  unfolding rule.statesRule rule.stateAllowed below witnessRecord wordsBytes bytes
-  states-with true e = rw (banks-is x p, e) (refl, refl, refl)
-  states-with false e = rw (banks-is x p, e) (refl, refl, refl)
+  states_with : (b : Bool) → all_for x ≡ b
+      → (state (witness_record x) 0 ≡ state_for x) × (state (witness_record x) 1 ≡ accepted_bank) × (rule.statesRule (witness_record x) ≡ true)
+  unfolding rule.statesRule rule.stateAllowed below witness_record words_bytes bytes
+  states_with true e = rw (banks_is x p, e) (refl, refl, refl)
+  states_with false e = rw (banks_is x p, e) (refl, refl, refl)
 
-  all-0 : rule.allAccepted (witnessRecord x) 0 ≡ allFor x
+  all_0 : rule.allAccepted (witness_record x) 0 ≡ all_for x
   unfolding rule.allAccepted
-  all-0 =
-      rw (images-is x p)
-      (below-same (λ k. eqb (accepted (witnessRecord x) k 0) 1) (λ k. eqb (x.flags k) 1) x.images (λ k h. rw (bank0-is x p k h).0))
+  all_0 =
+      rw (images_is x p)
+      (below_same (λ k. eqb (accepted (witness_record x) k 0) 1) (λ k. eqb (x.flags k) 1) x.images (λ k h. rw (bank0_is x p k h).0))
 
-  all-1 : rule.allAccepted (witnessRecord x) 1 ≡ true
+  all_1 : rule.allAccepted (witness_record x) 1 ≡ true
   unfolding rule.allAccepted
-  all-1 = rw (images-is x p) (below_all (λ k. eqb (accepted (witnessRecord x) k 1) 1) x.images (λ k h. rw (bank1-is x p k h).0))
+  all_1 = rw (images_is x p) (below_all (λ k. eqb (accepted (witness_record x) k 1) 1) x.images (λ k h. rw (bank1_is x p k h).0))
 
-  live : (b : Bool) → eqb (state (witnessRecord x) (cond b 0 1)) invalid ≡ false
-  live true = rw (states-with (allFor x) refl).0 (live-ended (allFor x))
-  live false = rw (states-with (allFor x) refl).1
+  live : (b : Bool) → eqb (state (witness_record x) (cond b 0 1)) invalid ≡ false
+  live true = rw (states_with (all_for x) refl).0 (live_ended (all_for x))
+  live false = rw (states_with (all_for x) refl).1
 
-  banks-hold : rule.banksRule (witnessRecord x) ≡ true
-  unfolding rule.banksRule rule.bankConsistent bankFits below
-  banks-hold =
-      let s = states-with (allFor x) refl in
-      rw ((header_is x p).1.1.0, live x.right, banks-is x p, s.0, s.1, all-0, all-1, fits-ended (allFor x))
+  banks_hold : rule.banksRule (witness_record x) ≡ true
+  unfolding rule.banksRule rule.bankConsistent bank_fits_words below
+  banks_hold =
+      let s = states_with (all_for x) refl in
+      rw ((header_is x p).1.1.0, live x.right, banks_is x p, s.0, s.1, all_0, all_1, fits_ended (all_for x))
 
-  crc-holds : rule.crcRule (witnessRecord x) ≡ true
-  unfolding rule.crcRule witnessRecord wordsBytes bytes
-  crc-holds = eq-eqb (crc (witnessRecord x)) (crcFor x) (header_is x p).0
+  crc_holds : rule.crcRule (witness_record x) ≡ true
+  unfolding rule.crcRule witness_record words_bytes bytes
+  crc_holds = eq-eqb (crc (witness_record x)) (crc_for x) (header_is x p).0
 
-  pub witness-sound : sound (witnessRecord x) ≡ true
+  pub witness_sound : sound (witness_record x) ≡ true
   unfolding sound
-  witness-sound =
+  witness_sound =
       rw (
         fixed.0,
         fixed.1,
-        image-count-holds,
+        image_count_holds,
         fixed.2,
         fixed.3,
         size_holds,
         fixed.4,
-        reserved-holds,
-        banks-named-holds,
-        accepted-holds,
-        type-guids-holds,
-        (states-with (allFor x) refl).2,
-        banks-hold,
-        crc-holds,
+        reserved_holds,
+        banks_named_holds,
+        accepted_holds,
+        type_guids_holds,
+        (states_with (all_for x) refl).2,
+        banks_hold,
+        crc_holds,
       )

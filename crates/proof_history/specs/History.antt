@@ -9,9 +9,9 @@ use Rattle.refusal_order.specs.Decide.{Decision, passed, refusal, Reply, gives, 
 use Rattle.update_changes.specs.Changed.{Call}
 use Rattle.update_session.specs.declared.Session.{Session}
 use Rattle.update_session.specs.Calls.{Result, answered}
-use Rattle.update_start_up.specs.StartUp.{startUp}
+use Rattle.update_start_up.specs.StartUp.{start_up_of}
 use Rattle.update_repair.specs.Repair.{repaired}
-use Rattle.proof_format_cuts.specs.Area.{afterStores, afterCut}
+use Rattle.proof_format_cuts.specs.Area.{after_stores, after_cut}
 
 -- ---- what there is: the area's bytes, and the session last answered, or none
 pub record World : Type 0 where
@@ -20,7 +20,7 @@ pub record World : Type 0 where
 
 -- ---- what happens
 pub data Act : Type 0 where
-  startsUp : (booted : ℕ) → Act
+  starts_up : (booted : ℕ) → Act
   repairs : Act
   calls : (k : Call) → Act
 
@@ -52,47 +52,47 @@ pub data Effect : Type 0 where
   nothing : Effect
   does : (next : Option Session) (ss : List Store) → Effect
 
-unfoldable pub startUpEffect : Reply Session → Effect
-startUpEffect (gives q) = does (some q) []
-startUpEffect (refuses number values) = nothing
+unfoldable pub start_up_effect : Reply Session → Effect
+start_up_effect (gives q) = does (some q) []
+start_up_effect (refuses number values) = nothing
 
 -- a repair leaves the session that there was
-unfoldable pub repairEffect : Option Session → Reply ℕ → (out : List ℕ) → Effect
-repairEffect q (gives n) out = does q (pairs n out)
-repairEffect q (refuses number values) out = nothing
+unfoldable pub repair_effect : Option Session → Reply ℕ → (out : List ℕ) → Effect
+repair_effect q (gives n) out = does q (pairs n out)
+repair_effect q (refuses number values) out = nothing
 
-unfoldable pub callEffect : Decision → Result → Effect
-callEffect passed x = does (some x.0.0) (list_of x)
-callEffect (refusal number values) x = nothing
+unfoldable pub call_effect : Decision → Result → Effect
+call_effect passed x = does (some x.0.0) (list_of x)
+call_effect (refusal number values) x = nothing
 
 -- a call takes the session last answered: without one it cannot be made
-unfoldable pub callEffectOf : Call → Option Session → (a s : List ℕ) → Effect
-callEffectOf k none a s = nothing
-callEffectOf k (some q) a s = callEffect (answered k q a s).0.1 (answered k q a s)
+unfoldable pub call_effect_of : Call → Option Session → (a s : List ℕ) → Effect
+call_effect_of k none a s = nothing
+call_effect_of k (some q) a s = call_effect (answered k q a s).0.1 (answered k q a s)
 
 unfoldable pub effect_of : Act → World → (s : List ℕ) → Effect
-effect_of (startsUp booted) w s = startUpEffect (startUp w.area booted)
-effect_of repairs w s = repairEffect w.session (repaired w.area s).0 (repaired w.area s).1
-effect_of (calls k) w s = callEffectOf k w.session w.area s
+effect_of (starts_up booted) w s = start_up_effect (start_up_of w.area booted)
+effect_of repairs w s = repair_effect w.session (repaired w.area s).0 (repaired w.area s).1
+effect_of (calls k) w s = call_effect_of k w.session w.area s
 
 -- ---- one event
 -- all stores done, or the first n (P2)
-unfoldable pub areaAfter : Fate → (a : List ℕ) → List Store → List ℕ
-areaAfter whole a ss = afterStores a ss
-areaAfter (cut n) a ss = afterCut a ss n
+unfoldable pub area_after : Fate → (a : List ℕ) → List Store → List ℕ
+area_after whole a ss = after_stores a ss
+area_after (cut n) a ss = after_cut a ss n
 
 -- what is in no area is lost with the power (P14)
-unfoldable pub sessionAfter : Fate → Option Session → Option Session
-sessionAfter whole q = q
-sessionAfter (cut n) q = none
+unfoldable pub session_after : Fate → Option Session → Option Session
+session_after whole q = q
+session_after (cut n) q = none
 
 -- a refusal alters no byte, and leaves the session that there was
-unfoldable pub stepBy : Effect → Fate → World → World
-stepBy nothing fate w = record { area = w.area; session = sessionAfter fate w.session }
-stepBy (does next ss) fate w = record { area = areaAfter fate w.area ss; session = sessionAfter fate next }
+unfoldable pub step_by : Effect → Fate → World → World
+step_by nothing fate w = record { area = w.area; session = session_after fate w.session }
+step_by (does next ss) fate w = record { area = area_after fate w.area ss; session = session_after fate next }
 
 unfoldable pub step : World → Event → World
-step w e = stepBy (effect_of e.act w e.slice) e.fate w
+step w e = step_by (effect_of e.act w e.slice) e.fate w
 
 -- ---- one after another: each is given what the one before it left
 unfoldable pub run : World → List Event → World

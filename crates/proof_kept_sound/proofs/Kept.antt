@@ -4,69 +4,69 @@ use mathlib.Core.Bool.{true}
 use mathlib.Core.List.{List}
 use Prim.Native.Nat.{ℕ, ◌<◌}
 use Rattle.fields.specs.Number.{Bytes}
-use Rattle.record_layout.specs.Layout.{active, bankCount, imageCount}
+use Rattle.record_layout.specs.Layout.{active, bank_count, image_count}
 use Rattle.record_layout.specs.Rules.{sound}
-use Rattle.record_alterations.specs.Fields.{withCrc}
-use Rattle.record_alterations.proofs.Stays.{crc-stays}
-use Rattle.update_changes.specs.Changed.{changedBy, Names}
+use Rattle.record_alterations.specs.Fields.{with_crc}
+use Rattle.record_alterations.proofs.Stays.{crc_stays}
+use Rattle.update_changes.specs.Changed.{changed_by, Names}
 use Rattle.update_changes.specs.declared.Change.{Change}
 use Rattle.update_changes.specs.declared.Change.TheVariants.{Nothing, Begin, Commit, End, Accept, Exchange}
-use Rattle.update_changes.proofs.Banks.{sized, update-in}
-use Rattle.update_changes.specs.NewRecord.{updateBankOf, begunRecord, committedRecord, endedRecord, acceptedRecord, exchangedRecord}
-use Rattle.proof_kept_sound.specs.Fields.{Fields, fields_of, FieldsAre, fieldsAfter, CallsMake}
+use Rattle.update_changes.proofs.Banks.{sized, update_in}
+use Rattle.update_changes.specs.NewRecord.{update_bank_of, begun_record, committed_record, ended_record, accepted_record, exchanged_record}
+use Rattle.proof_kept_sound.specs.Fields.{Fields, fields_of, FieldsAre, fields_after, CallsMake}
 use Rattle.proof_kept_sound.specs.Kept.{Kept, Asks, CallsKeepSound}
-use Rattle.proof_kept_sound.proofs.Says.{Says, says-crc, crc-agrees}
-use Rattle.proof_kept_sound.proofs.Good.{Good, update-differs, good-begun, good-committed, good-ended, good-accepted, good-exchanged}
-use Rattle.proof_kept_sound.proofs.Carried.{good_of, banks-stay, images-stay, types-stay, flag-reads, sound-of}
-use Rattle.proof_kept_sound.proofs.Calls.{told, begin-says, commit-says, end-says, accept-says, exchange-says}
+use Rattle.proof_kept_sound.proofs.Says.{Says, says_crc, crc_agrees}
+use Rattle.proof_kept_sound.proofs.Good.{Good, update_differs, good_begun, good_committed, good_ended, good_accepted, good_exchanged}
+use Rattle.proof_kept_sound.proofs.Carried.{good_of, banks_stay, images_stay, types_stay, flag_reads, sound_of}
+use Rattle.proof_kept_sound.proofs.Calls.{told, begin_says, commit_says, end_says, accept_says, exchange_says}
 
 module _ (r : List ℕ) (small : Bytes r) (e : sound r ≡ true) where
-  g : Good (bankCount r) (imageCount r) (fields_of r)
+  g : Good (bank_count r) (image_count r) (fields_of r)
   g = good_of r e
 
-  differs : active r ≡ updateBankOf r → ⊥
-  differs q = update-differs (bankCount r) (active r) (sized r e).banks-low g.active-low (sym q)
+  differs : active r ≡ update_bank_of r → ⊥
+  differs q = update_differs (bank_count r) (active r) (sized r e).banks_low g.active_low (sym q)
 
   -- the record with its CRC worked anew
-  module _ (x : List ℕ) (f : Fields) (w : Says r (bankCount r) (imageCount r) x f) where
-    finished : Says r (bankCount r) (imageCount r) (withCrc x) f
-    finished = says-crc r (bankCount r) (imageCount r) (sized r e) x f w
+  module _ (x : List ℕ) (f : Fields) (w : Says r (bank_count r) (image_count r) x f) where
+    finished : Says r (bank_count r) (image_count r) (with_crc x) f
+    finished = says_crc r (bank_count r) (image_count r) (sized r e) x f w
 
-    kept : Good (bankCount r) (imageCount r) f → Kept r (withCrc x)
+    kept : Good (bank_count r) (image_count r) f → Kept r (with_crc x)
     kept h =
         record {
-          is-sound = sound-of r (withCrc x) f finished (sized r e) h e (crc-agrees r (bankCount r) (imageCount r) (sized r e) x f w);
+          is_sound = sound_of r (with_crc x) f finished (sized r e) h e (crc_agrees r (bank_count r) (image_count r) (sized r e) x f w);
           bytes = finished.small;
           long = finished.long;
         }
 
-    reads : FieldsAre r (withCrc x) f
+    reads : FieldsAre r (with_crc x) f
     reads =
         record {
-          active-is = finished.active-is;
-          previous-is = finished.previous-is;
-          state-is = finished.state-is;
-          flag_is = flag-reads r (withCrc x) f finished;
+          active_is = finished.active_is;
+          previous_is = finished.previous_is;
+          state_is = finished.state_is;
+          flag_is = flag_reads r (with_crc x) f finished;
           stays = finished.stays;
-          banks-is = banks-stay r (withCrc x) f finished;
-          images-is = images-stay r (withCrc x) f finished;
-          type-is = types-stay r (withCrc x) f finished;
+          banks_is = banks_stay r (with_crc x) f finished;
+          images_is = images_stay r (with_crc x) f finished;
+          type_is = types_stay r (with_crc x) f finished;
         }
 
   -- the record that each change makes, before its CRC is worked anew
   record Made (x : Change) : Type 0 where
     before : List ℕ
-    is : withCrc before ≡ changedBy x r
-    says : Says r (bankCount r) (imageCount r) before (fieldsAfter x r (fields_of r))
+    is : with_crc before ≡ changed_by x r
+    says : Says r (bank_count r) (image_count r) before (fields_after x r (fields_of r))
 
   made : (x : Change) → Names x r → Made x
-  unfolding changedBy begunRecord committedRecord endedRecord acceptedRecord exchangedRecord
-  made Nothing h = record { before = r; is = crc-stays r e small; says = told r small (sized r e) }
-  made Begin h = record { before = _; is = refl; says = begin-says r small (sized r e) g.active-low (updateBankOf r) (update-in r e) }
-  made (Commit i request) h = record { before = _; is = refl; says = commit-says r small (sized r e) g.active-low (updateBankOf r) (update-in r e) i request h }
-  made End h = record { before = _; is = refl; says = end-says r small (sized r e) g.active-low (updateBankOf r) (update-in r e) }
-  made (Accept i) h = record { before = _; is = refl; says = accept-says r small (sized r e) g.active-low i h }
-  made Exchange h = record { before = _; is = refl; says = exchange-says r small (sized r e) g.active-low g.previous-low }
+  unfolding changed_by begun_record committed_record ended_record accepted_record exchanged_record
+  made Nothing h = record { before = r; is = crc_stays r e small; says = told r small (sized r e) }
+  made Begin h = record { before = _; is = refl; says = begin_says r small (sized r e) g.active_low (update_bank_of r) (update_in r e) }
+  made (Commit i request) h = record { before = _; is = refl; says = commit_says r small (sized r e) g.active_low (update_bank_of r) (update_in r e) i request h }
+  made End h = record { before = _; is = refl; says = end_says r small (sized r e) g.active_low (update_bank_of r) (update_in r e) }
+  made (Accept i) h = record { before = _; is = refl; says = accept_says r small (sized r e) g.active_low i h }
+  made Exchange h = record { before = _; is = refl; says = exchange_says r small (sized r e) g.active_low g.previous_low }
 
   -- the tests of a call give its image, and fields that the rules ask
   named : (x : Change) → Asks x r → Names x r
@@ -77,24 +77,24 @@ module _ (r : List ℕ) (small : Bytes r) (e : sound r ≡ true) where
   named (Accept i) h = h
   named Exchange h = tt
 
-  good : (x : Change) → Asks x r → Good (bankCount r) (imageCount r) (fieldsAfter x r (fields_of r))
+  good : (x : Change) → Asks x r → Good (bank_count r) (image_count r) (fields_after x r (fields_of r))
   good Nothing h = g
-  good Begin h = good-begun (bankCount r) (imageCount r) (fields_of r) g (updateBankOf r) (update-in r e) differs
-  good (Commit i request) h = good-committed (bankCount r) (imageCount r) (fields_of r) g i request (updateBankOf r) h.1
-  good End h = good-ended (bankCount r) (imageCount r) (fields_of r) g (updateBankOf r) (update-in r e)
-  good (Accept i) h = good-accepted (bankCount r) (imageCount r) (fields_of r) g i
-  good Exchange h = good-exchanged (bankCount r) (imageCount r) (fields_of r) g h
+  good Begin h = good_begun (bank_count r) (image_count r) (fields_of r) g (update_bank_of r) (update_in r e) differs
+  good (Commit i request) h = good_committed (bank_count r) (image_count r) (fields_of r) g i request (update_bank_of r) h.1
+  good End h = good_ended (bank_count r) (image_count r) (fields_of r) g (update_bank_of r) (update_in r e)
+  good (Accept i) h = good_accepted (bank_count r) (image_count r) (fields_of r) g i
+  good Exchange h = good_exchanged (bank_count r) (image_count r) (fields_of r) g h
 
-  all-kept : (x : Change) → Asks x r → Kept r (changedBy x r)
-  all-kept x h = let m = made x (named x h) in subst (Kept r) m.is (kept m.before _ m.says (good x h))
+  all_kept : (x : Change) → Asks x r → Kept r (changed_by x r)
+  all_kept x h = let m = made x (named x h) in subst (Kept r) m.is (kept m.before _ m.says (good x h))
 
-  all_made : (x : Change) → Names x r → FieldsAre r (changedBy x r) (fieldsAfter x r (fields_of r))
+  all_made : (x : Change) → Names x r → FieldsAre r (changed_by x r) (fields_after x r (fields_of r))
   all_made x h =
       let m = made x h in
-      subst (λ (new : List ℕ). FieldsAre r new (fieldsAfter x r (fields_of r))) m.is (reads m.before _ m.says)
+      subst (λ (new : List ℕ). FieldsAre r new (fields_after x r (fields_of r))) m.is (reads m.before _ m.says)
 
-pub kept-sound : CallsKeepSound
-kept-sound r small e = all-kept r small e
+pub kept_sound : CallsKeepSound
+kept_sound r small e = all_kept r small e
 
 pub fields_made : CallsMake
 fields_made r small e = all_made r small e

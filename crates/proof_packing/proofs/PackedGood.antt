@@ -9,20 +9,20 @@ use lib.Dec.{eqb}
 use lib.ListN.{length}
 use Rattle.fields.specs.Part.{part}
 use Rattle.fields.proofs.Tests.{both, no_true, positive}
-use Rattle.fields.proofs.Bytes.{le-small}
-use Rattle.fields.proofs.Guid.{guid-whole}
+use Rattle.fields.proofs.Bytes.{le_small}
+use Rattle.fields.proofs.Guid.{guid_whole}
 use Rattle.fields.proofs.Part.{part_length}
 use Rattle.refusal_order.specs.Decide.{passed, decide}
-use Rattle.refusal_order.proofs.Decide.{no-fault}
-use Rattle.capsule_header.specs.Header.{flagsRight}
-use Rattle.capsule_body.specs.Body.{all, itemLimit}
-use Rattle.capsule_body.proofs.Body.{all-at}
-use Rattle.capsule_contents.specs.Contents.{items_of, sizeLimit}
-use Rattle.capsule_contents.specs.Lent.{Lent, contentsOf, driversIn, payloadsIn, start_at, length_at, driverAt, payloadAt}
-use Rattle.capsule_contents.specs.Lent.{versionGiven, instanceGiven}
-use Rattle.capsule_packing_rules.specs.Rules.{driverInside, payloadInside, driverFilled, versionAtRight, instanceRight}
-use Rattle.capsule_packing_rules.specs.Rules.{capsuleSize, contentsTests, sizeTests}
-use Rattle.capsule_packer.specs.Packer.{packerTests}
+use Rattle.refusal_order.proofs.Decide.{no_fault}
+use Rattle.capsule_header.specs.Header.{flags_right}
+use Rattle.capsule_body.specs.Body.{all, item_limit}
+use Rattle.capsule_body.proofs.Body.{all_at}
+use Rattle.capsule_contents.specs.Contents.{items_of, size_limit}
+use Rattle.capsule_contents.specs.Lent.{Lent, contents_of, drivers_in, payloads_in, start_at, length_at, driver_at, payload_at}
+use Rattle.capsule_contents.specs.Lent.{version_given, instance_given}
+use Rattle.capsule_packing_rules.specs.Rules.{driver_inside, payload_inside, driver_filled, version_at_right, instance_right}
+use Rattle.capsule_packing_rules.specs.Rules.{capsule_size, contents_tests, size_tests}
+use Rattle.capsule_packer.specs.Packer.{packer_tests}
 use Rattle.proof_packing.specs.RoundTrip.{Typed}
 use Rattle.proof_packing.proofs.Good.{GoodPayload, Good}
 
@@ -32,45 +32,45 @@ other true u e q = e
 other false u e q = absurd (no_true q)
 
 -- a driver whose part lies in its slice and is told a length is as long
-driver-filled : (slice table : List ℕ) (k : ℕ) → driverInside slice table k ≡ true → driverFilled table k ≡ true
-    → 0 < length (part slice (start_at table (driverAt k)) (start_at table (driverAt k) + length_at table (driverAt k)))
-driver-filled slice table k inside filled =
-    let a = start_at table (driverAt k) in
-    let l = length_at table (driverAt k) in
+driver_filled_lem : (slice table : List ℕ) (k : ℕ) → driver_inside slice table k ≡ true → driver_filled table k ≡ true
+    → 0 < length (part slice (start_at table (driver_at k)) (start_at table (driver_at k) + length_at table (driver_at k)))
+driver_filled_lem slice table k inside filled =
+    let a = start_at table (driver_at k) in
+    let l = length_at table (driver_at k) in
     let some = positive l (eqb-false l 0 (not-true (eqb l 0) filled)) in
     omega (arith, part_length slice a (a + l) (leb-true (a + l) (length slice) inside))
 
-payload-good : (x : Lent) (j : ℕ) → Typed x → j < payloadsIn x.payloadTable → versionAtRight x.payloadTable j ≡ true
-    → instanceRight x.payloadTable j ≡ true → GoodPayload ((contentsOf x).payload j)
-payload-good x j typed h version instance =
-    let t = x.payloadTable in
+payload_good : (x : Lent) (j : ℕ) → Typed x → j < payloads_in x.payload_table → version_at_right x.payload_table j ≡ true
+    → instance_right x.payload_table j ≡ true → GoodPayload ((contents_of x).payload j)
+payload_good x j typed h version instance =
+    let t = x.payload_table in
     record {
-      whole = guid-whole t (payloadAt j + 4) (omega arith);
+      whole = guid_whole t (payload_at j + 4) (omega arith);
       version = version;
-      wide = le-small 8 t (payloadAt j + 24) typed.payloadTable;
-      none = λ one. eqb-true (instanceGiven t j) 0 (other (eqb (versionGiven t j) 1) (eqb (instanceGiven t j) 0) instance one);
+      wide = le_small 8 t (payload_at j + 24) typed.payload_table;
+      none = λ one. eqb-true (instance_given t j) 0 (other (eqb (version_given t j) 1) (eqb (instance_given t j) 0) instance one);
     }
 
-pub packed-good : (x : Lent) (room : ℕ) → Typed x → passed ≡ decide (packerTests x room) → Good (contentsOf x)
-unfolding packerTests sizeTests contentsTests
-packed-good x room typed e =
-    let t = no-fault (packerTests x room) e in
-    let dt = x.driverTable in
-    let pt = x.payloadTable in
-    let d = driversIn dt in
-    let p = payloadsIn pt in
+pub packed_good : (x : Lent) (room : ℕ) → Typed x → passed ≡ decide (packer_tests x room) → Good (contents_of x)
+unfolding packer_tests size_tests contents_tests
+packed_good x room typed e =
+    let t = no_fault (packer_tests x room) e in
+    let dt = x.driver_table in
+    let pt = x.payload_table in
+    let d = drivers_in dt in
+    let p = payloads_in pt in
     let inside =
-    not-false (all (driverInside x.driverSlice dt) d && all (payloadInside x.imageSlice x.vendorCodeSlice pt) p) t.1.0 in
-    let lies = (both (all (driverInside x.driverSlice dt) d) _ inside).0 in
-    let lie = all-at (driverInside x.driverSlice dt) d in
-    let filled = not-false (all (driverFilled dt) d) t.1.1.0 in
-    let versions = not-false (all (versionAtRight pt) p) t.1.1.1.0 in
-    let instances = not-false (all (instanceRight pt) p) t.1.1.1.1.0 in
+    not-false (all (driver_inside x.driver_slice dt) d && all (payload_inside x.image_slice x.vendor_code_slice pt) p) t.1.0 in
+    let lies = (both (all (driver_inside x.driver_slice dt) d) _ inside).0 in
+    let lie = all_at (driver_inside x.driver_slice dt) d in
+    let filled = not-false (all (driver_filled dt) d) t.1.1.0 in
+    let versions = not-false (all (version_at_right pt) p) t.1.1.1.0 in
+    let instances = not-false (all (instance_right pt) p) t.1.1.1.1.0 in
     record {
-      few = ltb-false itemLimit (items_of (contentsOf x)) t.0;
+      few = ltb-false item_limit (items_of (contents_of x)) t.0;
       flags = typed.flags;
-      persists = not-false (flagsRight x.flags) t.1.1.1.1.1.0;
-      small = omega (arith, ltb-false sizeLimit (capsuleSize x) t.1.1.1.1.1.1.0);
-      filled = λ k h. driver-filled x.driverSlice dt k (lie k lies h) (all-at (driverFilled dt) d k filled h);
-      payload = λ j h. payload-good x j typed h (all-at (versionAtRight pt) p j versions h) (all-at (instanceRight pt) p j instances h);
+      persists = not-false (flags_right x.flags) t.1.1.1.1.1.0;
+      small = omega (arith, ltb-false size_limit (capsule_size x) t.1.1.1.1.1.1.0);
+      filled = λ k h. driver_filled_lem x.driver_slice dt k (lie k lies h) (all_at (driver_filled dt) d k filled h);
+      payload = λ j h. payload_good x j typed h (all_at (version_at_right pt) p j versions h) (all_at (instance_right pt) p j instances h);
     }

@@ -12,155 +12,155 @@ use Rattle.fields.specs.Number.{Bytes, le}
 use Rattle.fields.specs.Guid.{guid}
 use Rattle.fields.specs.Part.{Range, Lies}
 use Rattle.fields.specs.Joined.{joined}
-use Rattle.fields.proofs.Guid.{guid-whole}
-use Rattle.fields.proofs.Bytes.{take-bytes, drop-bytes, le-small}
+use Rattle.fields.proofs.Guid.{guid_whole}
+use Rattle.fields.proofs.Bytes.{take_bytes, drop_bytes, le_small}
 use Rattle.fields.proofs.Joined.{joined_bytes}
 use Rattle.capsule_header.specs.Header.{flags, body}
 use Rattle.capsule_body.specs.Body.{drivers, item}
-use Rattle.capsule_payloads.specs.Payload.{version, typeGuid, imageIndex, hardwareInstance, payloadRight}
-use Rattle.capsule_payloads.proofs.Payload.{first-header}
+use Rattle.capsule_payloads.specs.Payload.{version, type_guid, image_index, hardware_instance, payload_right}
+use Rattle.capsule_payloads.proofs.Payload.{first_header}
 use Rattle.capsule_check.specs.Item.{located}
-use Rattle.capsule_items.specs.Items.{itemPart}
-use Rattle.capsule_parts.specs.Parts.{imagePart, vendorCodePart}
-use Rattle.capsule_parts.proofs.Parts.{parts-lie}
-use Rattle.capsule_counts.specs.Count.{driverCount, payloadCount}
-use Rattle.capsule_contents.specs.Lent.{contentsOf, bytes_of, driversIn, payloadsIn, rangeAt, driverAt, payloadAt, imageAt, vendorCodeAt}
-use Rattle.capsule_packing_rules.specs.Rules.{inside, driverInside, payloadInside, partsInside}
-use Rattle.proof_packing.specs.RoundTrip.{Taken, shownPayload, shownContents, Same, toldPart, shownEntry, readAgain, Typed}
-use Rattle.capsule_body.proofs.Body.{all-each}
-use Rattle.proof_packing.proofs.PayloadAgain.{payloadIn}
-use Rattle.proof_packing.proofs.Shown.{item-bytes, length-low, payloads-shown, right-shown, payload-shown}
-use Rattle.proof_packing.proofs.Told.{entries-told, entry-told, told-long, told-small, Tells, told-read, Fits}
-use Rattle.proof_packing.proofs.Told.{PayloadReads, entry-long, entry-small, entry_read}
+use Rattle.capsule_items.specs.Items.{item_part}
+use Rattle.capsule_parts.specs.Parts.{image_part, vendor_code_part}
+use Rattle.capsule_parts.proofs.Parts.{parts_lie}
+use Rattle.capsule_counts.specs.Count.{driver_count, payload_count}
+use Rattle.capsule_contents.specs.Lent.{contents_of, bytes_of, drivers_in, payloads_in, range_at, driver_at, payload_at, image_at, vendor_code_at}
+use Rattle.capsule_packing_rules.specs.Rules.{inside, driver_inside, payload_inside, parts_inside}
+use Rattle.proof_packing.specs.RoundTrip.{Taken, shown_payload, shown_contents, Same, told_part, shown_entry, lent_again, Typed}
+use Rattle.capsule_body.proofs.Body.{all_each}
+use Rattle.proof_packing.proofs.PayloadAgain.{payload_in}
+use Rattle.proof_packing.proofs.Shown.{item_bytes_lem, length_low, payloads_shown, right_shown, payload_shown}
+use Rattle.proof_packing.proofs.Told.{entries_told, entry_told, told_long, told_small, Tells, told_read, Fits}
+use Rattle.proof_packing.proofs.Told.{PayloadReads, entry_long, entry_small, entry_read}
 
 -- the values of a payload's item fit
-item-fits : (p : List ℕ) → Bytes p → payloadRight p ≡ true → Fits (payloadIn p)
-unfolding version typeGuid imageIndex hardwareInstance guid
-item-fits p small right =
+item_fits : (p : List ℕ) → Bytes p → payload_right p ≡ true → Fits (payload_in p)
+unfolding version type_guid image_index hardware_instance guid
+item_fits p small right =
     record {
-      version = le-small 4 p 0 small;
-      guid-long = guid-whole p 4 (omega (arith, first-header p right));
-      guid-small = take-bytes 16 (drop 4 p) (drop-bytes 4 p small);
+      version = le_small 4 p 0 small;
+      guid_long = guid_whole p 4 (omega (arith, first_header p right));
+      guid_small = take_bytes 16 (drop 4 p) (drop_bytes 4 p small);
       index = small 20;
       instance = go (eqb (le 4 p 0) 1);
     }
   where
     go : (t : Bool) → cond t 0 (le 8 p 32) < 2 ^ 64
     go true = omega arith
-    go false = le-small 8 p 32 small
+    go false = le_small 8 p 32 small
 
 module _ (s : List ℕ) (small : Bytes s) (taken : Taken s) where
   -- a part of the capsule
   tells : (r : Range) → Lies s r → Tells r
-  tells r lies = record { ordered = lies.ordered; low = omega (arith, lies.inside, length-low s taken small) }
+  tells r lies = record { ordered = lies.ordered; low = omega (arith, lies.inside, length_low s taken small) }
 
-  lies-inside : (r q : Range) → r ≡ q → Lies s q → inside s r ≡ true
-  lies-inside r q e lies = ap (λ (x : Range). inside s x) e ∙ le-leb q.end (length s) lies.inside
+  lies_inside : (r q : Range) → r ≡ q → Lies s q → inside s r ≡ true
+  lies_inside r q e lies = ap (λ (x : Range). inside s x) e ∙ le-leb q.end (length s) lies.inside
 
   -- ---- the drivers
-  abbrev driverPart : ℕ → Range
-  driverPart k = itemPart (located s k)
+  abbrev driver_part : ℕ → Range
+  driver_part k = item_part (located s k)
 
-  abbrev driverTable : List ℕ
-  driverTable = joined (driverCount s) (λ k. toldPart (driverPart k))
+  abbrev driver_table : List ℕ
+  driver_table = joined (driver_count s) (λ k. told_part (driver_part k))
 
-  drivers-told : driversIn driverTable ≡ driverCount s
-  drivers-told = entries-told 16 (driverCount s) (λ k. toldPart (driverPart k)) (λ k lt. told-long (driverPart k)) (omega arith)
+  drivers_told : drivers_in driver_table ≡ driver_count s
+  drivers_told = entries_told 16 (driver_count s) (λ k. told_part (driver_part k)) (λ k lt. told_long (driver_part k)) (omega arith)
 
-  driver-told : (k : ℕ) → k < driversIn driverTable → rangeAt driverTable (driverAt k) ≡ driverPart k
-  driver-told k lt =
-      told-read driverTable (driverAt k) (driverPart k) (drop (16 * k + 16) driverTable) (tells (driverPart k) (parts-lie s k).item)
-      (entry-told 16 (driverCount s) (λ i. toldPart (driverPart i)) (λ i l. told-long (driverPart i)) k (rw drivers-told at lt))
+  driver_told : (k : ℕ) → k < drivers_in driver_table → range_at driver_table (driver_at k) ≡ driver_part k
+  driver_told k lt =
+      told_read driver_table (driver_at k) (driver_part k) (drop (16 * k + 16) driver_table) (tells (driver_part k) (parts_lie s k).item)
+      (entry_told 16 (driver_count s) (λ i. told_part (driver_part i)) (λ i l. told_long (driver_part i)) k (rw drivers_told at lt))
 
   -- ---- the payloads
   abbrev number_of : ℕ → ℕ
-  number_of j = driverCount s + j
+  number_of j = driver_count s + j
 
   abbrev image : ℕ → Range
-  image j = imagePart s (located s (number_of j))
+  image j = image_part s (located s (number_of j))
 
   abbrev code : ℕ → Range
-  code j = vendorCodePart s (located s (number_of j))
+  code j = vendor_code_part s (located s (number_of j))
 
-  abbrev payloadTable : List ℕ
-  payloadTable = joined (payloadCount s) (shownEntry s)
+  abbrev payload_table : List ℕ
+  payload_table = joined (payload_count s) (shown_entry s)
 
-  shown-fits : (j : ℕ) → j < payloadCount s → Fits (shownPayload s j)
-  shown-fits j lt =
+  shown_fits : (j : ℕ) → j < payload_count s → Fits (shown_payload s j)
+  shown_fits j lt =
       let k = drivers (body s) + j in
-      let in_Body = rw (payloads-shown s taken) at lt in
-      rw (payload-shown s taken j in_Body) (item-fits (item (body s) k) (item-bytes s k small) (right-shown s taken j in_Body))
+      let in_Body = rw (payloads_shown s taken) at lt in
+      rw (payload_shown s taken j in_Body) (item_fits (item (body s) k) (item_bytes_lem s k small) (right_shown s taken j in_Body))
 
-  wide : (j : ℕ) → j < payloadCount s → length (shownEntry s j) ≡ 64
-  wide j lt = entry-long (shownPayload s j) (image j) (code j) (shown-fits j lt)
+  wide : (j : ℕ) → j < payload_count s → length (shown_entry s j) ≡ 64
+  wide j lt = entry_long (shown_payload s j) (image j) (code j) (shown_fits j lt)
 
-  payloads-told : payloadsIn payloadTable ≡ payloadCount s
-  payloads-told = entries-told 64 (payloadCount s) (shownEntry s) wide (omega arith)
+  payloads_told : payloads_in payload_table ≡ payload_count s
+  payloads_told = entries_told 64 (payload_count s) (shown_entry s) wide (omega arith)
 
-  module _ (j : ℕ) (lt : j < payloadsIn payloadTable) where
-    in_count : j < payloadCount s
-    in_count = rw payloads-told at lt
+  module _ (j : ℕ) (lt : j < payloads_in payload_table) where
+    in_count : j < payload_count s
+    in_count = rw payloads_told at lt
 
-    payload-told : PayloadReads payloadTable (payloadAt j) (shownPayload s j) (image j) (code j)
-    payload-told =
-        entry_read (shownPayload s j) (image j) (code j) (shown-fits j in_count) payloadTable (payloadAt j)
-        (drop (64 * j + 64) payloadTable)
-        (entry-told 64 (payloadCount s) (shownEntry s) wide j in_count)
-        (tells (image j) (parts-lie s (number_of j)).image)
-        (tells (code j) (parts-lie s (number_of j)).vendorCode)
+    payload_told : PayloadReads payload_table (payload_at j) (shown_payload s j) (image j) (code j)
+    payload_told =
+        entry_read (shown_payload s j) (image j) (code j) (shown_fits j in_count) payload_table (payload_at j)
+        (drop (64 * j + 64) payload_table)
+        (entry_told 64 (payload_count s) (shown_entry s) wide j in_count)
+        (tells (image j) (parts_lie s (number_of j)).image)
+        (tells (code j) (parts_lie s (number_of j)).vendor_code)
 
-    payload_same : (contentsOf (readAgain s)).payload j ≡ shownPayload s j
+    payload_same : (contents_of (lent_again s)).payload j ≡ shown_payload s j
     payload_same =
-        let r = payload-told in
+        let r = payload_told in
         λ i.
         record {
           version = r.version i;
-          typeGuid = r.typeGuid i;
-          imageIndex = r.imageIndex i;
-          hardwareInstance = r.hardwareInstance i;
+          type_guid = r.type_guid i;
+          image_index = r.image_index i;
+          hardware_instance = r.hardware_instance i;
           image = bytes_of s (r.image i);
-          vendorCode = bytes_of s (r.code i);
+          vendor_code = bytes_of s (r.code i);
         }
 
-    payload-inside : payloadInside s s payloadTable j ≡ true
-    payload-inside =
-        let lie = parts-lie s (number_of j) in
+    payload_inside_lem : payload_inside s s payload_table j ≡ true
+    payload_inside_lem =
+        let lie = parts_lie s (number_of j) in
         rw (
-          lies-inside (rangeAt payloadTable (imageAt j)) (image j) payload-told.image lie.image,
-          lies-inside (rangeAt payloadTable (vendorCodeAt j)) (code j) payload-told.code lie.vendorCode,
+          lies_inside (range_at payload_table (image_at j)) (image j) payload_told.image lie.image,
+          lies_inside (range_at payload_table (vendor_code_at j)) (code j) payload_told.code lie.vendor_code,
         )
 
   -- ---- the whole
-  again-inside : partsInside (readAgain s) ≡ true
-  again-inside =
-      let own : (k : ℕ) → k < driversIn driverTable → driverInside s driverTable k ≡ true =
-      λ k lt. lies-inside (rangeAt driverTable (driverAt k)) (driverPart k) (driver-told k lt) (parts-lie s k).item in
+  again_inside : parts_inside (lent_again s) ≡ true
+  again_inside =
+      let own : (k : ℕ) → k < drivers_in driver_table → driver_inside s driver_table k ≡ true =
+      λ k lt. lies_inside (range_at driver_table (driver_at k)) (driver_part k) (driver_told k lt) (parts_lie s k).item in
       rw (
-        all-each (driverInside s driverTable) (driversIn driverTable) own,
-        all-each (payloadInside s s payloadTable) (payloadsIn payloadTable) payload-inside,
+        all_each (driver_inside s driver_table) (drivers_in driver_table) own,
+        all_each (payload_inside s s payload_table) (payloads_in payload_table) payload_inside_lem,
       )
 
-  again-same : Same (contentsOf (readAgain s)) (shownContents s)
-  again-same =
+  again_same : Same (contents_of (lent_again s)) (shown_contents s)
+  again_same =
       record {
         flags = refl;
-        drivers = drivers-told;
-        payloads = payloads-told;
-        driver = λ k lt. ap (λ (r : Range). bytes_of s r) (driver-told k lt);
+        drivers = drivers_told;
+        payloads = payloads_told;
+        driver = λ k lt. ap (λ (r : Range). bytes_of s r) (driver_told k lt);
         payload = payload_same;
       }
 
-  again-typed : Typed (readAgain s)
+  again_typed : Typed (lent_again s)
   unfolding flags
-  again-typed =
+  again_typed =
       record {
-        flags = le-small 4 s 20 small;
-        driverTable = joined_bytes (driverCount s) (λ k. toldPart (driverPart k)) (λ k lt. told-small (driverPart k));
-        payloadTable =
-            joined_bytes (payloadCount s) (shownEntry s) (λ j lt.
-            entry-small (shownPayload s j) (image j) (code j) (shown-fits j lt));
+        flags = le_small 4 s 20 small;
+        driver_table = joined_bytes (driver_count s) (λ k. told_part (driver_part k)) (λ k lt. told_small (driver_part k));
+        payload_table =
+            joined_bytes (payload_count s) (shown_entry s) (λ j lt.
+            entry_small (shown_payload s j) (image j) (code j) (shown_fits j lt));
       }
 
 pub read_again : (s : List ℕ) → Bytes s → Taken s
-    → (partsInside (readAgain s) ≡ true) × Same (contentsOf (readAgain s)) (shownContents s) × Typed (readAgain s)
-read_again s small taken = (again-inside s small taken, again-same s small taken, again-typed s small taken)
+    → (parts_inside (lent_again s) ≡ true) × Same (contents_of (lent_again s)) (shown_contents s) × Typed (lent_again s)
+read_again s small taken = (again_inside s small taken, again_same s small taken, again_typed s small taken)

@@ -12,97 +12,97 @@ use Rattle.fields.specs.Number.{Bytes, le, put}
 use Rattle.fields.proofs.Tests.{both}
 use Rattle.fields.proofs.Part.{part_length}
 use Rattle.refusal_order.specs.Decide.{passed, decide, Reply, gives}
-use Rattle.capsule_header.specs.Header.{flagsRight, body}
-use Rattle.capsule_body.specs.Body.{drivers, payloads, offset, itemEnd, item}
-use Rattle.capsule_body.proofs.Body.{all-each, few-items, item_in}
-use Rattle.capsule_payloads.specs.Payload.{version, versionRight, hardwareInstance, payloadRight, vendorCodeEnd}
-use Rattle.capsule_contents.specs.Contents.{PayloadContents, capsuleBytes, items_of, sizeLimit}
-use Rattle.capsule_contents.specs.Lent.{Lent, contentsOf, driversIn, payloadsIn, start_at, length_at, driverAt, versionGiven}
-use Rattle.capsule_packing_rules.specs.Rules.{partsInside, driverFilled, versionAtRight, instanceRight, capsuleSize}
-use Rattle.capsule_packing_rules.specs.Rules.{contentsTests, sizeTests}
-use Rattle.capsule_packer.specs.Packer.{packerTests, packedBy, packed}
+use Rattle.capsule_header.specs.Header.{flags_right, body}
+use Rattle.capsule_body.specs.Body.{drivers, payloads, offset, item_end, item}
+use Rattle.capsule_body.proofs.Body.{all_each, few_items, item_in}
+use Rattle.capsule_payloads.specs.Payload.{version, version_right, hardware_instance, payload_right, vendor_code_end}
+use Rattle.capsule_contents.specs.Contents.{PayloadContents, capsule_bytes, items_of, size_limit}
+use Rattle.capsule_contents.specs.Lent.{Lent, contents_of, drivers_in, payloads_in, start_at, length_at, driver_at, version_given}
+use Rattle.capsule_packing_rules.specs.Rules.{parts_inside, driver_filled, version_at_right, instance_right, capsule_size}
+use Rattle.capsule_packing_rules.specs.Rules.{contents_tests, size_tests}
+use Rattle.capsule_packer.specs.Packer.{packer_tests, packed_by, packed}
 use Rattle.proof_packing.specs.Tight.{tight}
-use Rattle.proof_packing.specs.RoundTrip.{Taken, shownContents, Same}
-use Rattle.proof_packing.proofs.PayloadAgain.{payloadIn}
-use Rattle.proof_packing.proofs.Shown.{sound-of, length-low}
-use Rattle.proof_packing.proofs.Shown.{drivers-shown, payloads-shown, driver-shown, right-shown, payload-shown}
-use Rattle.proof_packing.proofs.CapsuleAgain.{capsule-again}
+use Rattle.proof_packing.specs.RoundTrip.{Taken, shown_contents, Same}
+use Rattle.proof_packing.proofs.PayloadAgain.{payload_in}
+use Rattle.proof_packing.proofs.Shown.{sound_of, length_low}
+use Rattle.proof_packing.proofs.Shown.{drivers_shown, payloads_shown, driver_shown, right_shown, payload_shown}
+use Rattle.proof_packing.proofs.CapsuleAgain.{capsule_again}
 
 -- version 1 shows hardware instance 0
-instance-shown : (p : List ℕ) → (not (eqb (version p) 1) || eqb (hardwareInstance p) 0) ≡ true
-unfolding hardwareInstance
-instance-shown p = go (eqb (version p) 1)
+instance_shown : (p : List ℕ) → (not (eqb (version p) 1) || eqb (hardware_instance p) 0) ≡ true
+unfolding hardware_instance
+instance_shown p = go (eqb (version p) 1)
   where
     go : (t : Bool) → (not t || eqb (cond t 0 (le 8 p 32)) 0) ≡ true
     go true = refl
     go false = refl
 
-module _ (s : List ℕ) (x : Lent) (taken : Taken s) (same : Same (contentsOf x) (shownContents s)) where
-  drivers-few : driversIn x.driverTable ≡ drivers (body s)
-  drivers-few = same.drivers ∙ drivers-shown s taken
+module _ (s : List ℕ) (x : Lent) (taken : Taken s) (same : Same (contents_of x) (shown_contents s)) where
+  drivers_few : drivers_in x.driver_table ≡ drivers (body s)
+  drivers_few = same.drivers ∙ drivers_shown s taken
 
-  payloads-few : payloadsIn x.payloadTable ≡ payloads (body s)
-  payloads-few = same.payloads ∙ payloads-shown s taken
+  payloads_few : payloads_in x.payload_table ≡ payloads (body s)
+  payloads_few = same.payloads ∙ payloads_shown s taken
 
   -- a driver of no byte would show none
-  filled : (k : ℕ) → k < driversIn x.driverTable → driverFilled x.driverTable k ≡ true
+  filled : (k : ℕ) → k < drivers_in x.driver_table → driver_filled x.driver_table k ≡ true
   unfolding item
   filled k lt =
       let b = body s in
-      let n = length_at x.driverTable (driverAt k) in
-      let a = start_at x.driverTable (driverAt k) in
-      let i = item_in b (sound-of s taken).offsets k (omega (arith, drivers-few)) in
-      let own = ap length (same.driver k lt ∙ driver-shown s taken k (omega (arith, drivers-few))) in
+      let n = length_at x.driver_table (driver_at k) in
+      let a = start_at x.driver_table (driver_at k) in
+      let i = item_in b (sound_of s taken).offsets k (omega (arith, drivers_few)) in
+      let own = ap length (same.driver k lt ∙ driver_shown s taken k (omega (arith, drivers_few))) in
       let some : n ≡ 0 → ⊥ =
       λ z.
-      omega (arith, own, part_length b (offset b k) (itemEnd b k) i.1, length-take (a + n - a) (drop a x.driverSlice)) in
+      omega (arith, own, part_length b (offset b k) (item_end b k) i.1, length-take (a + n - a) (drop a x.driver_slice)) in
       rw (ne_eqb n 0 some)
 
   -- a payload's values are those of its item
-  module _ (j : ℕ) (lt : j < payloadsIn x.payloadTable) where
+  module _ (j : ℕ) (lt : j < payloads_in x.payload_table) where
     abbrev p : List ℕ
     p = item (body s) (drivers (body s) + j)
 
     in_body : j < payloads (body s)
-    in_body = omega (arith, payloads-few)
+    in_body = omega (arith, payloads_few)
 
-    given : (contentsOf x).payload j ≡ payloadIn p
-    given = same.payload j lt ∙ payload-shown s taken j in_body
+    given : (contents_of x).payload j ≡ payload_in p
+    given = same.payload j lt ∙ payload_shown s taken j in_body
 
-    version-given : versionGiven x.payloadTable j ≡ version p
-    version-given = ap (λ (q : PayloadContents). q.version) given
+    version_given_lem : version_given x.payload_table j ≡ version p
+    version_given_lem = ap (λ (q : PayloadContents). q.version) given
 
-    version-right : versionAtRight x.payloadTable j ≡ true
-    unfolding payloadRight
-    version-right =
-        rw version-given (both (versionRight (version p)) (leb (vendorCodeEnd p) (length p)) (right-shown s taken j in_body)).0
+    version_right_lem : version_at_right x.payload_table j ≡ true
+    unfolding payload_right
+    version_right_lem =
+        rw version_given_lem (both (version_right (version p)) (leb (vendor_code_end p) (length p)) (right_shown s taken j in_body)).0
 
-    instance-right : instanceRight x.payloadTable j ≡ true
-    instance-right = rw (version-given, ap (λ (q : PayloadContents). q.hardwareInstance) given) (instance-shown p)
+    instance_right_lem : instance_right x.payload_table j ≡ true
+    instance_right_lem = rw (version_given_lem, ap (λ (q : PayloadContents). q.hardware_instance) given) (instance_shown p)
 
-  module _ (small : Bytes s) (same_bytes : capsuleBytes (contentsOf x) ≡ s) (inside : partsInside x ≡ true) where
-    tests-pass : (room : ℕ) → length s ≤ room → decide (packerTests x room) ≡ passed
-    unfolding packerTests sizeTests contentsTests decide
-    tests-pass room enough =
-        let d = drivers-few in
-        let p = payloads-few in
+  module _ (small : Bytes s) (same_bytes : capsule_bytes (contents_of x) ≡ s) (inside : parts_inside x ≡ true) where
+    tests_pass : (room : ℕ) → length s ≤ room → decide (packer_tests x room) ≡ passed
+    unfolding packer_tests size_tests contents_tests decide
+    tests_pass room enough =
+        let d = drivers_few in
+        let p = payloads_few in
         let size = ap length same_bytes in
-        let flags : flagsRight x.flags ≡ true = rw same.flags (sound-of s taken).flagged in
+        let flags : flags_right x.flags ≡ true = rw same.flags (sound_of s taken).flagged in
         rw (
-          le-ltb 64 (items_of (contentsOf x)) (omega (arith, few-items (body s) (sound-of s taken).offsets)),
+          le-ltb 64 (items_of (contents_of x)) (omega (arith, few_items (body s) (sound_of s taken).offsets)),
           inside,
-          all-each (driverFilled x.driverTable) (driversIn x.driverTable) filled,
-          all-each (versionAtRight x.payloadTable) (payloadsIn x.payloadTable) version-right,
-          all-each (instanceRight x.payloadTable) (payloadsIn x.payloadTable) instance-right,
+          all_each (driver_filled x.driver_table) (drivers_in x.driver_table) filled,
+          all_each (version_at_right x.payload_table) (payloads_in x.payload_table) version_right_lem,
+          all_each (instance_right x.payload_table) (payloads_in x.payload_table) instance_right_lem,
           flags,
-          le-ltb sizeLimit (capsuleSize x) (omega (arith, length-low s taken small)),
-          le-ltb room (capsuleSize x) (omega arith),
+          le-ltb size_limit (capsule_size x) (omega (arith, length_low s taken small)),
+          le-ltb room (capsule_size x) (omega arith),
         )
 
-pub taken-packed : (s out : List ℕ) (x : Lent) → Bytes s → Taken s → tight s ≡ true → partsInside x ≡ true
-    → Same (contentsOf x) (shownContents s) → length s ≤ length out
+pub taken_packed : (s out : List ℕ) (x : Lent) → Bytes s → Taken s → tight s ≡ true → parts_inside x ≡ true
+    → Same (contents_of x) (shown_contents s) → length s ≤ length out
     → ◌≡◌ {A = Reply ℕ × List ℕ} (packed x out) (gives (length s), put out 0 s)
-unfolding packed packedBy
-taken-packed s out x small taken tightly inside same room =
-    let bytes = capsule-again s small taken tightly (contentsOf x) same in
-    rw (tests-pass s x taken same small bytes inside (length out) room, bytes)
+unfolding packed packed_by
+taken_packed s out x small taken tightly inside same room =
+    let bytes = capsule_again s small taken tightly (contents_of x) same in
+    rw (tests_pass s x taken same small bytes inside (length out) room, bytes)

@@ -4,20 +4,20 @@ use Rattle.std.specs.Prelude.{◌≡◌, List, [], ◌∷◌, ◌++◌, ℕ, len
 use Rattle.std.proofs.Common.{arith, eq-eqb, length-append}
 use Rattle.fields.specs.Number.{le}
 use Rattle.fields.specs.Guid.{guid, same}
-use Rattle.record_crc.specs.Crc.{divisionStep, steps, withByte, withBytes, crc32Of}
+use Rattle.record_crc.specs.Crc.{division_step, steps, with_byte, with_bytes, crc32_of}
 use Rattle.record_layout.specs.Every.{below}
-use Rattle.record_layout.specs.Layout.{areaSize, recordOf}
+use Rattle.record_layout.specs.Layout.{area_size, record_of}
 use Rattle.record_layout.specs.Rules as rule
-use Rattle.record_copies.specs.Copies.{source_of, readFrom}
+use Rattle.record_copies.specs.Copies.{source_of, read_from}
 use Rattle.refusal_order.specs.Decide.{decide}
-use Rattle.update_admission.specs.Rows.{readTests}
+use Rattle.update_admission.specs.Rows.{read_tests}
 use Rattle.report_text.specs.Text.{ascii, digits, decimal, numbers, line, ascending}
-use Rattle.report_lines.specs.Lines.{bankLine, imageLine, imageLines, headLines, recordLines}
-use Rattle.report.specs.Report.{reportBy, reportOf}
+use Rattle.report_lines.specs.Lines.{bank_line, image_line, image_lines, head_lines, record_lines}
+use Rattle.report.specs.Report.{report_by, report_of}
 
 -- the record's 120 bytes, every GUID zero
-abbrev pub exampleRecord : List ℕ
-exampleRecord =
+abbrev pub example_record : List ℕ
+example_record =
     249 ∷ 251 ∷ 88 ∷ 245 ∷ 2 ∷ 0 ∷ 0 ∷ 0 ∷ 0 ∷ 0 ∷ 0 ∷ 0 ∷ 1 ∷ 0 ∷ 0 ∷ 0 ∷ 120 ∷ 0 ∷ 0 ∷ 0 ∷
     32 ∷ 0 ∷ 0 ∷ 0 ∷ 252 ∷ 252 ∷ 255 ∷ 255 ∷ 0 ∷ 0 ∷ 0 ∷ 0 ∷ 2 ∷ 0 ∷ 1 ∷ 0 ∷ 80 ∷ 0 ∷ 24 ∷ 0 ∷
     0 ∷ 0 ∷ 0 ∷ 0 ∷ 0 ∷ 0 ∷ 0 ∷ 0 ∷ 0 ∷ 0 ∷ 0 ∷ 0 ∷ 0 ∷ 0 ∷ 0 ∷ 0 ∷ 0 ∷ 0 ∷ 0 ∷ 0 ∷
@@ -26,12 +26,12 @@ exampleRecord =
     0 ∷ 0 ∷ 0 ∷ 0 ∷ 0 ∷ 0 ∷ 0 ∷ 0 ∷ 0 ∷ 0 ∷ 0 ∷ 0 ∷ 1 ∷ 0 ∷ 0 ∷ 0 ∷ 0 ∷ 0 ∷ 0 ∷ 0 ∷ []
 
 pub example : (rest : List ℕ) → length rest ≡ 16264
-    → reportOf (exampleRecord ++ rest)
+    → report_of (example_record ++ rest)
     ≡ ascii "record\t0\t120\nactive\t0\nprevious\t1\nbank\t0\t252\nbank\t1\t252\nimage\t0\t0\t1\nimage\t0\t1\t1\n"
-unfolding reportOf reportBy readTests decide recordLines headLines bankLine imageLine imageLines ascending line numbers
-    decimal digits source_of readFrom recordOf rule.soundCopy rule.sound rule.versionRule rule.bankCountRule
+unfolding report_of report_by read_tests decide record_lines head_lines bank_line image_line image_lines ascending line numbers
+    decimal digits source_of read_from record_of rule.soundCopy rule.sound rule.versionRule rule.bankCountRule
     rule.imageCountRule rule.bankEntrySizeRule rule.imageEntrySizeRule rule.sizeRule rule.descriptorOffsetRule
     rule.reservedRule rule.banksNamedRule rule.acceptedRule rule.typeGuidsRule rule.stateAllowed rule.statesRule
-    rule.allAccepted rule.bankConsistent rule.banksRule rule.crcRule below le guid same divisionStep steps withByte withBytes
-    crc32Of
-example rest h = rw (eq-eqb (length (exampleRecord ++ rest)) areaSize (omega (arith, length-append exampleRecord rest)))
+    rule.allAccepted rule.bankConsistent rule.banksRule rule.crcRule below le guid same division_step steps with_byte with_bytes
+    crc32_of
+example rest h = rw (eq-eqb (length (example_record ++ rest)) area_size (omega (arith, length-append example_record rest)))

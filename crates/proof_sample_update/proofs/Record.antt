@@ -11,22 +11,22 @@ use lib.ListN.{length, replicate, length-replicate, length-append}
 use Rattle.fields.specs.Number.{Bytes, le}
 use Rattle.fields.specs.Guid.{guid, same}
 use Rattle.fields.proofs.Tests.{both}
-use Rattle.fields.proofs.Bytes.{append-bytes, zero-bytes}
-use Rattle.record_crc.specs.Crc.{divisionStep, steps, withByte, withBytes, crc32Of}
+use Rattle.fields.proofs.Bytes.{append_bytes, zero_bytes}
+use Rattle.record_crc.specs.Crc.{division_step, steps, with_byte, with_bytes, crc32_of}
 use Rattle.record_layout.specs.Every.{below}
-use Rattle.record_layout.specs.Layout.{areaSize, copySize}
+use Rattle.record_layout.specs.Layout.{area_size, copy_size}
 use Rattle.record_layout.specs.Rules as rule
-use Rattle.record_copies.specs.Copies.{soundAndEqual}
-use Rattle.proof_format_cuts.proofs.Copy.{Holds, starts-holds}
+use Rattle.record_copies.specs.Copies.{sound_and_equal}
+use Rattle.proof_format_cuts.proofs.Copy.{Holds, starts_holds}
 use Rattle.proof_format_cuts.proofs.Cut.{both_hold}
 use Rattle.proof_record_cuts.specs.Version2.{version2}
 use Rattle.proof_record_cuts.specs.Cuts.{BothHold}
-use Rattle.proof_record_cuts.proofs.Version2.{version2-laws}
+use Rattle.proof_record_cuts.proofs.Version2.{version2_laws}
 use Rattle.proof_record_cuts.proofs.Cuts.{both_of, equal}
 
 -- the record's 120 bytes
-unfoldable pub sampleRecord : List ℕ
-sampleRecord =
+unfoldable pub sample_record : List ℕ
+sample_record =
     249 ∷ 251 ∷ 88 ∷ 245 ∷ 2 ∷ 0 ∷ 0 ∷ 0 ∷ 0 ∷ 0 ∷ 0 ∷ 0 ∷ 1 ∷ 0 ∷ 0 ∷ 0 ∷ 120 ∷ 0 ∷ 0 ∷ 0 ∷
     32 ∷ 0 ∷ 0 ∷ 0 ∷ 252 ∷ 252 ∷ 255 ∷ 255 ∷ 0 ∷ 0 ∷ 0 ∷ 0 ∷ 2 ∷ 0 ∷ 1 ∷ 0 ∷ 80 ∷ 0 ∷ 24 ∷ 0 ∷
     0 ∷ 0 ∷ 0 ∷ 0 ∷ 0 ∷ 0 ∷ 0 ∷ 0 ∷ 0 ∷ 0 ∷ 0 ∷ 0 ∷ 0 ∷ 0 ∷ 0 ∷ 0 ∷ 0 ∷ 0 ∷ 0 ∷ 0 ∷
@@ -34,11 +34,11 @@ sampleRecord =
     0 ∷ 0 ∷ 0 ∷ 0 ∷ 0 ∷ 0 ∷ 0 ∷ 0 ∷ 1 ∷ 0 ∷ 0 ∷ 0 ∷ 0 ∷ 0 ∷ 0 ∷ 0 ∷ 0 ∷ 0 ∷ 0 ∷ 0 ∷
     0 ∷ 0 ∷ 0 ∷ 0 ∷ 0 ∷ 0 ∷ 0 ∷ 0 ∷ 0 ∷ 0 ∷ 0 ∷ 0 ∷ 1 ∷ 0 ∷ 0 ∷ 0 ∷ 0 ∷ 0 ∷ 0 ∷ 0 ∷ []
 
-sample-sound : rule.sound sampleRecord ≡ true
-unfolding sampleRecord rule.sound rule.versionRule rule.bankCountRule rule.imageCountRule rule.bankEntrySizeRule rule.imageEntrySizeRule
+sample_sound : rule.sound sample_record ≡ true
+unfolding sample_record rule.sound rule.versionRule rule.bankCountRule rule.imageCountRule rule.bankEntrySizeRule rule.imageEntrySizeRule
     rule.sizeRule rule.descriptorOffsetRule rule.reservedRule rule.banksNamedRule rule.acceptedRule rule.typeGuidsRule rule.stateAllowed
-    rule.statesRule rule.allAccepted rule.bankConsistent rule.banksRule rule.crcRule below le guid same divisionStep steps withByte withBytes crc32Of
-sample-sound = refl
+    rule.statesRule rule.allAccepted rule.bankConsistent rule.banksRule rule.crcRule below le guid same division_step steps with_byte with_bytes crc32_of
+sample_sound = refl
 
 -- bytes
 abbrev small : List ℕ → Bool
@@ -50,42 +50,42 @@ small_bytes [] e i = omega arith
 small_bytes (x ∷ xs) e zero = ltb-true x 256 (both (ltb x 256) (small xs) e).0
 small_bytes (x ∷ xs) e (suc i) = small_bytes xs (both (ltb x 256) (small xs) e).1 i
 
-sample-bytes : Bytes sampleRecord
-unfolding sampleRecord
-sample-bytes = small_bytes sampleRecord refl
+sample_bytes : Bytes sample_record
+unfolding sample_record
+sample_bytes = small_bytes sample_record refl
 
 -- a copy, and the area
-unfoldable pub sampleCopy : List ℕ
-sampleCopy = sampleRecord ++ replicate 8072 0
+unfoldable pub sample_copy : List ℕ
+sample_copy = sample_record ++ replicate 8072 0
 
-unfoldable pub sampleArea : List ℕ
-sampleArea = sampleCopy ++ sampleCopy
+unfoldable pub sample_area : List ℕ
+sample_area = sample_copy ++ sample_copy
 
-copy-length : length sampleCopy ≡ copySize
-unfolding sampleCopy sampleRecord
-copy-length = length-append sampleRecord (replicate 8072 0) ∙ omega (arith, length-replicate {A = ℕ} 8072 0)
+copy_length : length sample_copy ≡ copy_size
+unfolding sample_copy sample_record
+copy_length = length-append sample_record (replicate 8072 0) ∙ omega (arith, length-replicate {A = ℕ} 8072 0)
 
-copy-bytes : Bytes sampleCopy
-unfolding sampleCopy
-copy-bytes = append-bytes sampleRecord (replicate 8072 0) sample-bytes (zero-bytes 8072)
+copy_bytes : Bytes sample_copy
+unfolding sample_copy
+copy_bytes = append_bytes sample_record (replicate 8072 0) sample_bytes (zero_bytes 8072)
 
-copy_holds : Holds version2 sampleRecord sampleCopy
-unfolding sampleCopy version2
-copy_holds = starts-holds version2 version2-laws sampleRecord (replicate 8072 0) sample-sound
+copy_holds : Holds version2 sample_record sample_copy
+unfolding sample_copy version2
+copy_holds = starts_holds version2 version2_laws sample_record (replicate 8072 0) sample_sound
 
-pub sample-long : length sampleArea ≡ areaSize
-unfolding sampleArea
-sample-long = length-append sampleCopy sampleCopy ∙ omega (arith, copy-length)
+pub sample_long : length sample_area ≡ area_size
+unfolding sample_area
+sample_long = length-append sample_copy sample_copy ∙ omega (arith, copy_length)
 
-pub sample-area-bytes : Bytes sampleArea
-unfolding sampleArea
-sample-area-bytes = append-bytes sampleCopy sampleCopy copy-bytes copy-bytes
+pub sample_area_bytes : Bytes sample_area
+unfolding sample_area
+sample_area_bytes = append_bytes sample_copy sample_copy copy_bytes copy_bytes
 
-pub sample-both : BothHold sampleArea sampleRecord
-unfolding sampleArea version2
-sample-both =
-    both_of sampleArea sampleRecord
-    (both_hold version2 sampleArea sampleCopy sampleCopy refl copy-length copy-length sampleRecord copy_holds copy_holds)
+pub sample_both : BothHold sample_area sample_record
+unfolding sample_area version2
+sample_both =
+    both_of sample_area sample_record
+    (both_hold version2 sample_area sample_copy sample_copy refl copy_length copy_length sample_record copy_holds copy_holds)
 
-pub sample-equal : soundAndEqual sampleArea ≡ true
-sample-equal = equal sampleArea sampleRecord sample-both
+pub sample_equal : sound_and_equal sample_area ≡ true
+sample_equal = equal sample_area sample_record sample_both

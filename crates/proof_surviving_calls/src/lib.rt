@@ -2,8 +2,8 @@
 // the numbers that stand in the slice at exit, what crates/proof_power_cuts/specs/PowerCuts.antt says. That is their
 // whole purpose: no other crate uses them, and the device calls the entries themselves. Nothing is asked of the
 // arguments.
-ghost use Rattle.update_changes.specs.Changed.{begin, commit, end, cancel, accept, selectPrevious};
-ghost use Rattle.update_session.specs.Outcome.{outcomeOf};
+ghost use Rattle.update_changes.specs.Changed.{begin, commit, end, cancel, accept, select_previous};
+ghost use Rattle.update_session.specs.Outcome.{outcome_of};
 ghost use Rattle.update_repair.specs.Repair as repairs;
 ghost use Rattle.update_start_up.specs.StartUp as starts;
 ghost use Rattle.proof_surviving_calls.specs.Tied.{Tied, TiedRepair, TiedStartUp};
@@ -14,7 +14,7 @@ use update_start_up::Started;
 
 // Begin.
 pub fn begin(session: Session, area: &[u8], out: &mut [u32]) -> Answer
-    ensures { Tied begin session area.now out.old (outcomeOf result) out.new }
+    ensures { Tied begin session area.now out.old (outcome_of result) out.new }
 {
     session.begin(area, out)
 }
@@ -27,35 +27,35 @@ pub fn commit(
     request: u32,
     out: &mut [u32],
 ) -> Answer
-    ensures { Tied (commit guid request) session area.now out.old (outcomeOf result) out.new }
+    ensures { Tied (commit guid request) session area.now out.old (outcome_of result) out.new }
 {
     session.commit(area, guid, request, out)
 }
 
 // End.
 pub fn end(session: Session, area: &[u8], out: &mut [u32]) -> Answer
-    ensures { Tied end session area.now out.old (outcomeOf result) out.new }
+    ensures { Tied end session area.now out.old (outcome_of result) out.new }
 {
     session.end(area, out)
 }
 
 // Cancel.
 pub fn cancel(session: Session, area: &[u8], out: &mut [u32]) -> Answer
-    ensures { Tied cancel session area.now out.old (outcomeOf result) out.new }
+    ensures { Tied cancel session area.now out.old (outcome_of result) out.new }
 {
     session.cancel(area, out)
 }
 
 // Accept.
 pub fn accept(session: Session, area: &[u8], guid: [u8; 16], out: &mut [u32]) -> Answer
-    ensures { Tied (accept guid) session area.now out.old (outcomeOf result) out.new }
+    ensures { Tied (accept guid) session area.now out.old (outcome_of result) out.new }
 {
     session.accept(area, guid, out)
 }
 
 // Select previous.
 pub fn select_previous(session: Session, area: &[u8], out: &mut [u32]) -> Answer
-    ensures { Tied selectPrevious session area.now out.old (outcomeOf result) out.new }
+    ensures { Tied select_previous session area.now out.old (outcome_of result) out.new }
 {
     session.select_previous(area, out)
 }

@@ -10,7 +10,7 @@ use Rattle.fields.specs.Guid.{same}
 use Rattle.fields.specs.Number.{Bytes, le}
 use Rattle.fields.proofs.Bytes.{words_same}
 use Rattle.fields.proofs.Guid.{same_false}
-use Rattle.fields.proofs.Tests.{le-or-lt}
+use Rattle.fields.proofs.Tests.{le_or_lt}
 
 -- the words below o are
 abbrev pub Agree : (x y : List ℕ) → ℕ → Type 0
@@ -18,18 +18,18 @@ Agree x y o = (k : ℕ) → 4 * (k / 4) ≡ k → k + 4 ≤ o → le 4 x k ≡ l
 
 module _ (x y : List ℕ) where
   -- the first
-  pub agree-first : le 4 x 0 ≡ le 4 y 0 → Agree x y 4
-  agree-first e k whole h = let z : k ≡ 0 = omega arith in rw z e
+  pub agree_first : le 4 x 0 ≡ le 4 y 0 → Agree x y 4
+  agree_first e k whole h = let z : k ≡ 0 = omega arith in rw z e
 
   -- one word more
-  pub agree-more : (o : ℕ) → 4 * (o / 4) ≡ o → Agree x y o → le 4 x o ≡ le 4 y o → Agree x y (o + 4)
-  agree-more o w p e k whole h =
-      ⊎_elim (λ q. p k whole q) (λ q. let z : k ≡ o = omega arith in rw z e) (le-or-lt (k + 4) o)
+  pub agree_more : (o : ℕ) → 4 * (o / 4) ≡ o → Agree x y o → le 4 x o ≡ le 4 y o → Agree x y (o + 4)
+  agree_more o w p e k whole h =
+      ⊎_elim (λ q. p k whole q) (λ q. let z : k ≡ o = omega arith in rw z e) (le_or_lt (k + 4) o)
 
   -- all of them
-  pub agree-all : (o : ℕ) → Bytes x → Bytes y → length x ≡ length y → 4 * (length x / 4) ≡ length x → length x ≤ o → Agree x y o → x ≡ y
-  agree-all o bx by l whole h p = words_same x y bx by l whole (λ k w q. p k w (omega arith))
+  pub agree_all : (o : ℕ) → Bytes x → Bytes y → length x ≡ length y → 4 * (length x / 4) ≡ length x → length x ≤ o → Agree x y o → x ≡ y
+  agree_all o bx by l whole h p = words_same x y bx by l whole (λ k w q. p k w (omega arith))
 
   -- one that differs
-  pub word-other : (o : ℕ) → (le 4 x o ≡ le 4 y o → ⊥) → false ≡ same x y
-  word-other o other = sym (same_false x y (λ e. other (ap (λ (l : List ℕ). le 4 l o) e)))
+  pub word_other : (o : ℕ) → (le 4 x o ≡ le 4 y o → ⊥) → false ≡ same x y
+  word_other o other = sym (same_false x y (λ e. other (ap (λ (l : List ℕ). le 4 l o) e)))

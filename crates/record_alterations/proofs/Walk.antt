@@ -17,9 +17,9 @@ pub walk_first : {r : List ℕ} {banks images : ℕ} → Sized r banks images �
 walk_first {r} {banks} {images} s = record { low = omega arith; whole = refl; inside = omega (arith, in_words r banks images s) }
 
 -- a word, and the next
-pub walk-word : {r : List ℕ} {banks images o : ℕ} → Sized r banks images → Walk r o → o < length r → Word r 4 o
-walk-word {r} {banks} {images} s w h =
+pub walk_word : {r : List ℕ} {banks images o : ℕ} → Sized r banks images → Walk r o → o < length r → Word r 4 o
+walk_word {r} {banks} {images} s w h =
     record { low = w.low; whole = w.whole; inside = omega (arith, in_words r banks images s, w.whole) }
 
 pub walk_more : {r : List ℕ} {banks images o : ℕ} → Sized r banks images → Walk r o → o < length r → Walk r (o + 4)
-walk_more s w h = record { low = omega (arith, w.low); whole = omega (arith, w.whole); inside = (walk-word s w h).inside }
+walk_more s w h = record { low = omega (arith, w.low); whole = omega (arith, w.whole); inside = (walk_word s w h).inside }

@@ -3,9 +3,9 @@
 ghost use Rattle.std.specs.Prelude.{◌≡◌, true};
 ghost use Rattle.fields.specs.Guid.{same};
 ghost use Rattle.fields.specs.Number.{le};
-ghost use Rattle.record_layout.specs.Layout.{headerSize, versionAt};
-ghost use Rattle.record_layout.specs.Rules.{crcOf, sound};
-ghost use Rattle.record_alterations.specs.Altered.{alteredBy, recordWith, Unaltered, Alterable, Word};
+ghost use Rattle.record_layout.specs.Layout.{header_size, version_at};
+ghost use Rattle.record_layout.specs.Rules.{crc_of, sound};
+ghost use Rattle.record_alterations.specs.Altered.{altered_by, record_with, Unaltered, Alterable, Word};
 
 use fields::read32;
 use record_crc::{ALL_ONES, crc_table, with_word};
@@ -45,8 +45,8 @@ pub fn unaltered(r: &[u8]) -> Alteration
 
 // The new record's word at o, among the entries: the flag where it is the accepted word of an image that x names.
 fn entry_word(r: &[u8], banks: usize, x: Alteration, o: usize) -> u32
-    requires { Alterable x r.now banks × Word r.now headerSize o }
-    ensures { result ≡ le 4 (alteredBy x r.now) o }
+    requires { Alterable x r.now banks × Word r.now header_size o }
+    ensures { result ≡ le 4 (altered_by x r.now) o }
 {
     let size = entry_size(banks);
     let image = (o - HEADER) / size;
@@ -64,8 +64,8 @@ fn entry_word(r: &[u8], banks: usize, x: Alteration, o: usize) -> u32
 
 // The new record's word at o, its CRC apart.
 pub fn new_word(r: &[u8], banks: usize, x: Alteration, o: usize) -> u32
-    requires { Alterable x r.now banks × Word r.now versionAt o }
-    ensures { result ≡ le 4 (alteredBy x r.now) o }
+    requires { Alterable x r.now banks × Word r.now version_at o }
+    ensures { result ≡ le 4 (altered_by x r.now) o }
 {
     if o == ACTIVE_AT {
         return x.active;
@@ -85,7 +85,7 @@ pub fn new_word(r: &[u8], banks: usize, x: Alteration, o: usize) -> u32
 // The new record's CRC (R4).
 pub fn new_crc(r: &[u8], banks: usize, x: Alteration) -> u32
     requires { Alterable x r.now banks }
-    ensures { result ≡ crcOf (alteredBy x r.now) }
+    ensures { result ≡ crc_of (altered_by x r.now) }
 {
     let t = crc_table();
     let mut q: u32 = ALL_ONES;
@@ -100,7 +100,7 @@ pub fn new_crc(r: &[u8], banks: usize, x: Alteration) -> u32
 // Whether the new record is the old one, which is sound: then no word differs behind the CRC.
 pub fn unchanged(r: &[u8], banks: usize, x: Alteration) -> bool
     requires { Alterable x r.now banks × (sound r.now ≡ true) }
-    ensures { result ≡ same r.now (recordWith x r.now) }
+    ensures { result ≡ same r.now (record_with x r.now) }
 {
     let mut o = VERSION_AT;
     while o < r.len() {

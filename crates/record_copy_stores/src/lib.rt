@@ -2,11 +2,11 @@
 // right. Every word is told anew for each copy; nothing is kept.
 // Parted from record_store_lists for the prover: each must-fail edit proves its whole crate again.
 ghost use Rattle.std.specs.Prelude.{◌≡◌, ◌+◌, ◌-◌, ◌/◌, ◌≤◌, length};
-ghost use Rattle.record_layout.specs.Layout.{areaSize, copySize, copy_at};
-ghost use Rattle.record_layout.specs.Rules.{crcOf};
-ghost use Rattle.record_stores.specs.Stores.{offsets, plan, storeNumbers};
-ghost use Rattle.record_stores.specs.Added.{Added, stored, Listable, copyPairs};
-ghost use Rattle.record_alterations.specs.Altered.{alteredBy, recordWith, Alterable};
+ghost use Rattle.record_layout.specs.Layout.{area_size, copy_size, copy_at};
+ghost use Rattle.record_layout.specs.Rules.{crc_of};
+ghost use Rattle.record_stores.specs.Stores.{offsets, plan, store_numbers};
+ghost use Rattle.record_stores.specs.Added.{Added, stored, Listable, copy_pairs};
+ghost use Rattle.record_alterations.specs.Altered.{altered_by, record_with, Alterable};
 
 use fields::read32;
 use record_alterations::{Alteration, new_word};
@@ -24,7 +24,7 @@ fn put_words(
     k: usize,
 ) -> usize
     requires { Alterable x r.now banks × Listable c.now r.now base k (length out.old) }
-    ensures { Added k result (stored base c.now (recordWith x r.now) (offsets 8 (length r.now / 4 - 2)))
+    ensures { Added k result (stored base c.now (record_with x r.now) (offsets 8 (length r.now / 4 - 2)))
         out.old out.new × (result ≤ k + (length r.now / 4 - 2)) }
 {
     let mut j = k;
@@ -48,10 +48,10 @@ pub fn put_copy(
     out: &mut [u32],
     k: usize,
 ) -> usize
-    requires { Alterable x r.now banks × (crc ≡ crcOf (alteredBy x r.now)) × (length area.now ≡ areaSize)
-        × (base ≤ copySize) × (k ≤ copyPairs) × (storeNumbers ≤ length out.old) }
-    ensures { Added k result (plan base (copy_at base area.now) (recordWith x r.now))
-        out.old out.new × (result ≤ k + copyPairs) }
+    requires { Alterable x r.now banks × (crc ≡ crc_of (altered_by x r.now)) × (length area.now ≡ area_size)
+        × (base ≤ copy_size) × (k ≤ copy_pairs) × (store_numbers ≤ length out.old) }
+    ensures { Added k result (plan base (copy_at base area.now) (record_with x r.now))
+        out.old out.new × (result ≤ k + copy_pairs) }
 {
     let c = &area[base..base + COPY];
     let at = base as u32;

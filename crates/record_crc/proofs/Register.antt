@@ -5,33 +5,33 @@ use Prim.Native.Nat.{ℕ, zero, suc, ◌*◌, ◌/◌, ◌%◌, ◌^◌, ◌<◌
 use native.Mathlib.Omega.{arith}
 use lib.Bits.{bit_xor, xor_lt}
 use Rattle.fields.specs.Number.{Bytes}
-use Rattle.record_crc.specs.Crc.{divisionStep, steps, withByte, withBytes, allOnes, crc32Of}
+use Rattle.record_crc.specs.Crc.{division_step, steps, with_byte, with_bytes, all_ones, crc32_of}
 
 -- one list of bytes behind another
-pub withBytes-append : (r : ℕ) (xs ys : List ℕ) → withBytes r (xs ++ ys) ≡ withBytes (withBytes r xs) ys
-unfolding withBytes
-withBytes-append r [] ys = refl
-withBytes-append r (x ∷ xs) ys = withBytes-append (withByte r x) xs ys
+pub with_bytes_append : (r : ℕ) (xs ys : List ℕ) → with_bytes r (xs ++ ys) ≡ with_bytes (with_bytes r xs) ys
+unfolding with_bytes
+with_bytes_append r [] ys = refl
+with_bytes_append r (x ∷ xs) ys = with_bytes_append (with_byte r x) xs ys
 
 -- ---- a CRC-32 has 32 bits
-step-low : (r : ℕ) → r < 2 ^ 32 → divisionStep r < 2 ^ 32
-unfolding divisionStep
-step-low r h = xor_lt 32 (r / 2) _ (omega arith) (omega arith)
+step_low : (r : ℕ) → r < 2 ^ 32 → division_step r < 2 ^ 32
+unfolding division_step
+step_low r h = xor_lt 32 (r / 2) _ (omega arith) (omega arith)
 
 steps_low : (n r : ℕ) → r < 2 ^ 32 → steps n r < 2 ^ 32
 unfolding steps
 steps_low zero r h = h
-steps_low (suc n) r h = steps_low n (divisionStep r) (step-low r h)
+steps_low (suc n) r h = steps_low n (division_step r) (step_low r h)
 
-byte_low : (r b : ℕ) → r < 2 ^ 32 → b < 256 → withByte r b < 2 ^ 32
-unfolding withByte
+byte_low : (r b : ℕ) → r < 2 ^ 32 → b < 256 → with_byte r b < 2 ^ 32
+unfolding with_byte
 byte_low r b h k = steps_low 8 (bit_xor r b) (xor_lt 32 r b h (omega arith))
 
-bytes_low : (r : ℕ) (bs : List ℕ) → r < 2 ^ 32 → Bytes bs → withBytes r bs < 2 ^ 32
-unfolding withBytes
+bytes_low : (r : ℕ) (bs : List ℕ) → r < 2 ^ 32 → Bytes bs → with_bytes r bs < 2 ^ 32
+unfolding with_bytes
 bytes_low r [] h k = h
-bytes_low r (b ∷ bs) h k = bytes_low (withByte r b) bs (byte_low r b h (k zero)) (λ i. k (suc i))
+bytes_low r (b ∷ bs) h k = bytes_low (with_byte r b) bs (byte_low r b h (k zero)) (λ i. k (suc i))
 
-pub crc-low : (bs : List ℕ) → Bytes bs → crc32Of bs < 2 ^ 32
-unfolding crc32Of
-crc-low bs k = xor_lt 32 (withBytes allOnes bs) allOnes (bytes_low allOnes bs (omega arith) k) (omega arith)
+pub crc_low : (bs : List ℕ) → Bytes bs → crc32_of bs < 2 ^ 32
+unfolding crc32_of
+crc_low bs k = xor_lt 32 (with_bytes all_ones bs) all_ones (bytes_low all_ones bs (omega arith) k) (omega arith)

@@ -1,7 +1,7 @@
 // CRC-32 (R4), by a table of 256 numbers (R29): one lookup a byte, for eight steps of the division.
 ghost use Rattle.std.specs.Prelude.{◌≡◌};
 ghost use Rattle.fields.specs.Number.{bytes};
-ghost use Rattle.record_crc.specs.Crc.{withByte, withBytes, crc32Of};
+ghost use Rattle.record_crc.specs.Crc.{with_byte, with_bytes, crc32_of};
 ghost use Rattle.record_crc.specs.Table.{TableRight};
 
 mod table;
@@ -23,7 +23,7 @@ pub fn crc_table() -> [u32; 256]
 // shifted down by one byte.
 fn with_byte(t: &[u32; 256], r: u32, b: u8) -> u32
     requires { TableRight t.now }
-    ensures { result ≡ withByte r b }
+    ensures { result ≡ with_byte r b }
 {
     let x = r ^ (b as u32);
     t[(x % 256) as usize] ^ (x / 256)
@@ -32,7 +32,7 @@ fn with_byte(t: &[u32; 256], r: u32, b: u8) -> u32
 // The register after the four bytes of w, the lowest first: for a caller whose bytes stand nowhere in one piece.
 pub fn with_word(t: &[u32; 256], r: u32, w: u32) -> u32
     requires { TableRight t.now }
-    ensures { result ≡ withBytes r (bytes 4 w) }
+    ensures { result ≡ with_bytes r (bytes 4 w) }
 {
     let x = w / 256;
     let y = x / 256;
@@ -45,7 +45,7 @@ pub fn with_word(t: &[u32; 256], r: u32, w: u32) -> u32
 
 // The CRC-32 of all bytes of s.
 pub fn crc32(s: &[u8]) -> u32
-    ensures { result ≡ crc32Of s.now }
+    ensures { result ≡ crc32_of s.now }
 {
     let t = crc_table();
     let mut r: u32 = ALL_ONES;

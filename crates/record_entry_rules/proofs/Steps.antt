@@ -5,8 +5,8 @@ use native.Mathlib.Nat.{zero-mul, suc-mul}
 use native.Mathlib.Numerals.{add-one}
 use native.Mathlib.Omega.{arith}
 
-pub step-none : (first step : ℕ) → first ≡ first + 0 * step
-step-none first step = omega (arith, zero-mul step)
+pub step_none : (first step : ℕ) → first ≡ first + 0 * step
+step_none first step = omega (arith, zero-mul step)
 
-pub step-more : (first step i : ℕ) {at : ℕ} → at ≡ first + i * step → at + step ≡ first + (i + 1) * step
-step-more first step i {at} h = rw add-one (omega (arith, suc-mul i step))
+pub step_more : (first step i : ℕ) {at : ℕ} → at ≡ first + i * step → at + step ≡ first + (i + 1) * step
+step_more first step i {at} h = rw add-one (omega (arith, suc-mul i step))

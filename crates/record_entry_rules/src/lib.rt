@@ -1,10 +1,10 @@
 // The rules of soundness on the words and type GUIDs of a record's image entries (R13, R15, R16). The counts and the
 // length have been tested (`Sized`) before anything here reads an entry.
 ghost use Rattle.std.specs.Prelude.{◌≡◌, not, ◌+◌, ◌*◌, ◌≤◌, ◌<◌, length};
-ghost use Rattle.fields.specs.Guid.{same, guidEvery};
+ghost use Rattle.fields.specs.Guid.{same, guid_every};
 ghost use Rattle.record_layout.specs.Every.{below, distinct};
-ghost use Rattle.record_layout.specs.Rules.{reservedRule, acceptedRule, typeGuidsRule};
-ghost use Rattle.record_layout.specs.Sized.{Sized, bankWords};
+ghost use Rattle.record_layout.specs.Rules.{reserved_rule, accepted_rule, type_guids_rule};
+ghost use Rattle.record_layout.specs.Sized.{Sized, bank_words};
 
 use fields::{read16, read32, same_guid};
 use record_layout::{
@@ -15,7 +15,7 @@ use record_layout::{
 // Whether, in each bank of image i, the word at `from` in the bank's entry is at most `limit`.
 fn bank_words(r: &[u8], banks: usize, images: usize, i: usize, from: usize, limit: u32) -> bool
     requires { Sized r.now banks images × (i < images) × (from ≤ 20) }
-    ensures { result ≡ bankWords r.now banks from limit i }
+    ensures { result ≡ bank_words r.now banks from limit i }
 {
     let mut b = 0;
     while b < banks {
@@ -30,7 +30,7 @@ fn bank_words(r: &[u8], banks: usize, images: usize, i: usize, from: usize, limi
 // The same for every image.
 fn all_words(r: &[u8], banks: usize, images: usize, from: usize, limit: u32) -> bool
     requires { Sized r.now banks images × (from ≤ 20) }
-    ensures { result ≡ below images (bankWords r.now banks from limit) }
+    ensures { result ≡ below images (bank_words r.now banks from limit) }
 {
     let mut i = 0;
     while i < images {
@@ -45,7 +45,7 @@ fn all_words(r: &[u8], banks: usize, images: usize, from: usize, limit: u32) -> 
 // R13: reserved fields are 0.
 pub fn reserved_rule(r: &[u8], banks: usize, images: usize) -> bool
     requires { Sized r.now banks images }
-    ensures { result ≡ reservedRule r.now }
+    ensures { result ≡ reserved_rule r.now }
 {
     if read16(r, RESERVED16_AT) != 0 {
         return false;
@@ -62,7 +62,7 @@ pub fn reserved_rule(r: &[u8], banks: usize, images: usize) -> bool
 // R15: accepted fields are 0 or 1.
 pub fn accepted_rule(r: &[u8], banks: usize, images: usize) -> bool
     requires { Sized r.now banks images }
-    ensures { result ≡ acceptedRule r.now }
+    ensures { result ≡ accepted_rule r.now }
 {
     all_words(r, banks, images, ACCEPTED_FROM, 1)
 }
@@ -70,7 +70,7 @@ pub fn accepted_rule(r: &[u8], banks: usize, images: usize) -> bool
 // Whether the GUID at `at`, number i of those that stand `step` bytes apart from `first` on, differs from those before.
 fn guid_differs(s: &[u8], first: usize, step: usize, i: usize, at: usize) -> bool
     requires { (at ≡ first + i * step) × (at + 16 ≤ length s.now) }
-    ensures { result ≡ below i (λ j. not (same (guidEvery step first s.now j) (guidEvery step first s.now i))) }
+    ensures { result ≡ below i (λ j. not (same (guid_every step first s.now j) (guid_every step first s.now i))) }
 {
     let mut from = first;
     let mut j = 0;
@@ -87,7 +87,7 @@ fn guid_differs(s: &[u8], first: usize, step: usize, i: usize, at: usize) -> boo
 // Whether n GUIDs that stand `step` bytes apart, the first at `first`, are all different. It serves directory_reader.
 pub fn guids_differ(s: &[u8], first: usize, step: usize, n: usize) -> bool
     requires { (16 ≤ step) × (first + n * step ≤ length s.now) }
-    ensures { result ≡ distinct n (guidEvery step first s.now) }
+    ensures { result ≡ distinct n (guid_every step first s.now) }
 {
     let mut at = first;
     let mut i = 0;
@@ -104,7 +104,7 @@ pub fn guids_differ(s: &[u8], first: usize, step: usize, n: usize) -> bool
 // R16: type GUIDs are all different.
 pub fn type_guids_rule(r: &[u8], banks: usize, images: usize) -> bool
     requires { Sized r.now banks images }
-    ensures { result ≡ typeGuidsRule r.now }
+    ensures { result ≡ type_guids_rule r.now }
 {
     guids_differ(r, HEADER, entry_size(banks), images)
 }

@@ -1,9 +1,9 @@
 // The rules of soundness on the record's header (R6 to R12, R14). Each is a function that answers what its definition
 // says.
 ghost use Rattle.std.specs.Prelude.{◌≡◌, ◌≤◌, length};
-ghost use Rattle.record_layout.specs.Layout.{headerSize};
-ghost use Rattle.record_layout.specs.Rules.{versionRule, bankCountRule, imageCountRule, bankEntrySizeRule};
-ghost use Rattle.record_layout.specs.Rules.{imageEntrySizeRule, sizeRule, descriptorOffsetRule, banksNamedRule};
+ghost use Rattle.record_layout.specs.Layout.{header_size};
+ghost use Rattle.record_layout.specs.Rules.{version_rule, bank_count_rule, image_count_rule, bank_entry_size_rule};
+ghost use Rattle.record_layout.specs.Rules.{image_entry_size_rule, size_rule, descriptor_offset_rule, banks_named_rule};
 
 use fields::read16;
 use record_layout::{
@@ -13,16 +13,16 @@ use record_layout::{
 
 // R6: the version is 2.
 pub fn version_rule(r: &[u8]) -> bool
-    requires { headerSize ≤ length r.now }
-    ensures { result ≡ versionRule r.now }
+    requires { header_size ≤ length r.now }
+    ensures { result ≡ version_rule r.now }
 {
     version(r) == 2
 }
 
 // R7: 2 to 4 banks.
 pub fn bank_count_rule(r: &[u8]) -> bool
-    requires { headerSize ≤ length r.now }
-    ensures { result ≡ bankCountRule r.now }
+    requires { header_size ≤ length r.now }
+    ensures { result ≡ bank_count_rule r.now }
 {
     let banks = bank_count(r);
     if banks < 2 {
@@ -33,8 +33,8 @@ pub fn bank_count_rule(r: &[u8]) -> bool
 
 // R8: 1 to 32 images.
 pub fn image_count_rule(r: &[u8]) -> bool
-    requires { headerSize ≤ length r.now }
-    ensures { result ≡ imageCountRule r.now }
+    requires { header_size ≤ length r.now }
+    ensures { result ≡ image_count_rule r.now }
 {
     let images = image_count(r);
     if images < 1 {
@@ -45,24 +45,24 @@ pub fn image_count_rule(r: &[u8]) -> bool
 
 // R9: the bank entry size.
 pub fn bank_entry_size_rule(r: &[u8]) -> bool
-    requires { headerSize ≤ length r.now }
-    ensures { result ≡ bankEntrySizeRule r.now }
+    requires { header_size ≤ length r.now }
+    ensures { result ≡ bank_entry_size_rule r.now }
 {
     read16(r, BANK_ENTRY_SIZE_AT) as usize == BANK_ENTRY
 }
 
 // R10: the image entry size.
 pub fn image_entry_size_rule(r: &[u8]) -> bool
-    requires { headerSize ≤ length r.now }
-    ensures { result ≡ imageEntrySizeRule r.now }
+    requires { header_size ≤ length r.now }
+    ensures { result ≡ image_entry_size_rule r.now }
 {
     read16(r, IMAGE_ENTRY_SIZE_AT) as usize == entry_size(bank_count(r))
 }
 
 // R11: the size, and that so many bytes are there.
 pub fn size_rule(r: &[u8]) -> bool
-    requires { headerSize ≤ length r.now }
-    ensures { result ≡ sizeRule r.now }
+    requires { header_size ≤ length r.now }
+    ensures { result ≡ size_rule r.now }
 {
     let n = size(r) as usize;
     if n != HEADER + image_count(r) * entry_size(bank_count(r)) {
@@ -73,16 +73,16 @@ pub fn size_rule(r: &[u8]) -> bool
 
 // R12: the descriptor offset.
 pub fn descriptor_offset_rule(r: &[u8]) -> bool
-    requires { headerSize ≤ length r.now }
-    ensures { result ≡ descriptorOffsetRule r.now }
+    requires { header_size ≤ length r.now }
+    ensures { result ≡ descriptor_offset_rule r.now }
 {
     read16(r, DESCRIPTOR_OFFSET_AT) == 32
 }
 
 // R14: active and previous name banks.
 pub fn banks_named_rule(r: &[u8]) -> bool
-    requires { headerSize ≤ length r.now }
-    ensures { result ≡ banksNamedRule r.now }
+    requires { header_size ≤ length r.now }
+    ensures { result ≡ banks_named_rule r.now }
 {
     let banks = bank_count(r);
     if banks <= active(r) as usize {

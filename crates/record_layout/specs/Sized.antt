@@ -3,26 +3,26 @@
 -- entry's promise. Assumes nothing.
 use Rattle.std.specs.Prelude.{ℕ, ◌+◌, ◌≤◌, Bool, leb, List, ◌≡◌, length, take, drop}
 use Rattle.fields.specs.Number.{le}
-use Rattle.record_layout.specs.Layout.{imageLimit, bankLimit, bankCount, imageCount, recordSize, bankEntryAt}
+use Rattle.record_layout.specs.Layout.{image_limit, bank_limit, bank_count, image_count, record_size, bank_entry_at}
 use Rattle.record_layout.specs.Every.{below}
 use Rattle.record_layout.specs.Rules.{rules, each}
 
 pub record Sized (r : List ℕ) (banks images : ℕ) : Type 0 where
-  pub banks-is : bankCount r ≡ banks
-  pub images-is : imageCount r ≡ images
-  pub banks-low : 2 ≤ banks
-  pub banks-high : banks ≤ bankLimit
-  pub images-low : 1 ≤ images
-  pub images-high : images ≤ imageLimit
-  pub long : length r ≡ recordSize banks images
+  pub banks_is : bank_count r ≡ banks
+  pub images_is : image_count r ≡ images
+  pub banks_low : 2 ≤ banks
+  pub banks_high : banks ≤ bank_limit
+  pub images_low : 1 ≤ images
+  pub images_high : images ≤ image_limit
+  pub long : length r ≡ record_size banks images
 
 -- in each bank of image i, the word at `from` in the bank's entry is at most `limit`
-unfoldable pub bankWords : List ℕ → (banks from limit i : ℕ) → Bool
-bankWords r banks from limit i = below banks (λ b. leb (le 4 r (bankEntryAt banks i b + from)) limit)
+unfoldable pub bank_words : List ℕ → (banks from limit i : ℕ) → Bool
+bank_words r banks from limit i = below banks (λ b. leb (le 4 r (bank_entry_at banks i b + from)) limit)
 
 -- the rules on which the length rests, R6 to R11, and those behind them, R12 to R19
-unfoldable pub firstSix : List ℕ → Bool
-firstSix r = each (take 6 rules) r
+unfoldable pub first_six : List ℕ → Bool
+first_six r = each (take 6 rules) r
 
-unfoldable pub lastEight : List ℕ → Bool
-lastEight r = each (drop 6 rules) r
+unfoldable pub last_eight : List ℕ → Bool
+last_eight r = each (drop 6 rules) r

@@ -3,10 +3,10 @@
 // copied. The rules of soundness are defined here, and tested in the crates above.
 ghost use Rattle.std.specs.Prelude.{◌≡◌, ◌+◌, ◌≤◌, ◌<◌, length};
 ghost use Rattle.fields.specs.Number.{le};
-ghost use Rattle.record_layout.specs.Layout.{areaSize, copySize, copy_at, copy0, copy1};
-ghost use Rattle.record_layout.specs.Layout.{headerSize, bankLimit, imageLimit, recordLimit, stateAt};
-ghost use Rattle.record_layout.specs.Layout.{version, size, active, previous, state, bankCount, imageCount, recordOf};
-ghost use Rattle.record_layout.specs.Layout.{entrySize, entry_at, bankEntryAt, accepted};
+ghost use Rattle.record_layout.specs.Layout.{area_size, copy_size, copy_at, copy0, copy1};
+ghost use Rattle.record_layout.specs.Layout.{header_size, bank_limit, image_limit, record_limit, state_at};
+ghost use Rattle.record_layout.specs.Layout.{version, size, active, previous, state, bank_count, image_count, record_of};
+ghost use Rattle.record_layout.specs.Layout.{entry_size, entry_at, bank_entry_at, accepted};
 ghost use Rattle.record_layout.specs.Sized.{Sized};
 
 use fields::{read16, read32};
@@ -71,8 +71,8 @@ pub const ACCEPTED: u8 = 252;
 
 // The record in a copy: as many bytes as its size says, and the header in any case.
 pub fn record_in(c: &[u8]) -> &[u8]
-    requires { headerSize ≤ length c.now }
-    ensures { result.now ≡ recordOf c.now }
+    requires { header_size ≤ length c.now }
+    ensures { result.now ≡ record_of c.now }
 {
     let n = size(c) as usize;
     if n < HEADER {
@@ -86,73 +86,73 @@ pub fn record_in(c: &[u8]) -> &[u8]
 
 // The record in the copy that stands at base in an area.
 pub fn record_at(area: &[u8], base: usize) -> &[u8]
-    requires { (length area.now ≡ areaSize) × (base ≤ copySize) }
-    ensures { result.now ≡ recordOf (copy_at base area.now) }
+    requires { (length area.now ≡ area_size) × (base ≤ copy_size) }
+    ensures { result.now ≡ record_of (copy_at base area.now) }
 {
     record_in(&area[base..base + COPY])
 }
 
 // The record in copy 0.
 pub fn record_in_copy0(area: &[u8]) -> &[u8]
-    requires { length area.now ≡ areaSize }
-    ensures { result.now ≡ recordOf (copy0 area.now) }
+    requires { length area.now ≡ area_size }
+    ensures { result.now ≡ record_of (copy0 area.now) }
 {
     record_at(area, 0)
 }
 
 // The record in copy 1.
 pub fn record_in_copy1(area: &[u8]) -> &[u8]
-    requires { length area.now ≡ areaSize }
-    ensures { result.now ≡ recordOf (copy1 area.now) }
+    requires { length area.now ≡ area_size }
+    ensures { result.now ≡ record_of (copy1 area.now) }
 {
     record_at(area, COPY)
 }
 
 pub fn version(r: &[u8]) -> u32
-    requires { headerSize ≤ length r.now }
+    requires { header_size ≤ length r.now }
     ensures { result ≡ version r.now }
 {
     read32(r, VERSION_AT)
 }
 
 pub fn size(r: &[u8]) -> u32
-    requires { headerSize ≤ length r.now }
+    requires { header_size ≤ length r.now }
     ensures { result ≡ size r.now }
 {
     read32(r, SIZE_AT)
 }
 
 pub fn active(r: &[u8]) -> u32
-    requires { headerSize ≤ length r.now }
+    requires { header_size ≤ length r.now }
     ensures { result ≡ active r.now }
 {
     read32(r, ACTIVE_AT)
 }
 
 pub fn previous(r: &[u8]) -> u32
-    requires { headerSize ≤ length r.now }
+    requires { header_size ≤ length r.now }
     ensures { result ≡ previous r.now }
 {
     read32(r, PREVIOUS_AT)
 }
 
 pub fn bank_count(r: &[u8]) -> usize
-    requires { headerSize ≤ length r.now }
-    ensures { result ≡ bankCount r.now }
+    requires { header_size ≤ length r.now }
+    ensures { result ≡ bank_count r.now }
 {
     r[BANK_COUNT_AT] as usize
 }
 
 pub fn image_count(r: &[u8]) -> usize
-    requires { headerSize ≤ length r.now }
-    ensures { result ≡ imageCount r.now }
+    requires { header_size ≤ length r.now }
+    ensures { result ≡ image_count r.now }
 {
     read16(r, IMAGE_COUNT_AT) as usize
 }
 
 // The state of bank b, of a record that may have fewer banks.
 pub fn state(r: &[u8], b: usize) -> u8
-    requires { (headerSize ≤ length r.now) × (b < bankLimit) }
+    requires { (header_size ≤ length r.now) × (b < bank_limit) }
     ensures { result ≡ state r.now b }
 {
     r[STATES_AT + b]
@@ -160,8 +160,8 @@ pub fn state(r: &[u8], b: usize) -> u8
 
 // The word of the four bank states.
 pub fn states(r: &[u8]) -> u32
-    requires { headerSize ≤ length r.now }
-    ensures { result ≡ le 4 r.now (stateAt 0) }
+    requires { header_size ≤ length r.now }
+    ensures { result ≡ le 4 r.now (state_at 0) }
 {
     read32(r, STATES_AT)
 }
@@ -169,30 +169,30 @@ pub fn states(r: &[u8]) -> u32
 // How long an image's entry is for that many banks.
 pub fn entry_size(banks: usize) -> usize
     requires { banks < 256 }
-    ensures { result ≡ entrySize banks }
+    ensures { result ≡ entry_size banks }
 {
     BANKS_FROM + BANK_ENTRY * banks
 }
 
 // The offset of the entry of image i.
 pub fn entry_at(banks: usize, i: usize) -> usize
-    requires { (banks ≤ bankLimit) × (i ≤ imageLimit) }
-    ensures { (result ≡ entry_at banks i) × (result ≤ recordLimit) }
+    requires { (banks ≤ bank_limit) × (i ≤ image_limit) }
+    ensures { (result ≡ entry_at banks i) × (result ≤ record_limit) }
 {
     HEADER + i * entry_size(banks)
 }
 
 // The word at `from` in the entry of bank b, in that of image i.
 pub fn bank_word(r: &[u8], banks: usize, i: usize, b: usize, from: usize) -> u32
-    requires { Sized r.now banks (imageCount r.now) × (i < imageCount r.now) × (b < banks) × (from ≤ 20) }
-    ensures { result ≡ le 4 r.now (bankEntryAt banks i b + from) }
+    requires { Sized r.now banks (image_count r.now) × (i < image_count r.now) × (b < banks) × (from ≤ 20) }
+    ensures { result ≡ le 4 r.now (bank_entry_at banks i b + from) }
 {
     read32(r, entry_at(banks, i) + BANKS_FROM + BANK_ENTRY * b + from)
 }
 
 // The accepted word of image i in bank b.
 pub fn accepted_word(r: &[u8], banks: usize, i: usize, b: usize) -> u32
-    requires { Sized r.now banks (imageCount r.now) × (i < imageCount r.now) × (b < banks) }
+    requires { Sized r.now banks (image_count r.now) × (i < image_count r.now) × (b < banks) }
     ensures { result ≡ accepted r.now i b }
 {
     bank_word(r, banks, i, b, ACCEPTED_FROM)

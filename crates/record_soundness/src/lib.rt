@@ -1,8 +1,8 @@
 // Whether a copy is sound (R5): R6 to R19, in their order.
 ghost use Rattle.std.specs.Prelude.{◌≡◌, ◌≤◌, length};
-ghost use Rattle.record_layout.specs.Layout.{headerSize};
-ghost use Rattle.record_layout.specs.Rules.{crcRule, sound, soundCopy};
-ghost use Rattle.record_layout.specs.Sized.{Sized, firstSix, lastEight};
+ghost use Rattle.record_layout.specs.Layout.{header_size};
+ghost use Rattle.record_layout.specs.Rules.{crc_rule, sound, sound_copy};
+ghost use Rattle.record_layout.specs.Sized.{Sized, first_six, last_eight};
 
 use fields::read32;
 use record_crc::crc32;
@@ -16,16 +16,16 @@ use record_state_rules::{banks_rule, states_rule};
 
 // R19: the CRC agrees.
 fn crc_rule(r: &[u8]) -> bool
-    requires { headerSize ≤ length r.now }
-    ensures { result ≡ crcRule r.now }
+    requires { header_size ≤ length r.now }
+    ensures { result ≡ crc_rule r.now }
 {
     read32(r, CRC_AT) == crc32(&r[VERSION_AT..])
 }
 
 // R6 to R11, on which the record's length rests.
 fn first_six(r: &[u8]) -> bool
-    requires { headerSize ≤ length r.now }
-    ensures { result ≡ firstSix r.now }
+    requires { header_size ≤ length r.now }
+    ensures { result ≡ first_six r.now }
 {
     if !version_rule(r) {
         return false;
@@ -48,7 +48,7 @@ fn first_six(r: &[u8]) -> bool
 // R12 to R19.
 fn last_eight(r: &[u8], banks: usize, images: usize) -> bool
     requires { Sized r.now banks images }
-    ensures { result ≡ lastEight r.now }
+    ensures { result ≡ last_eight r.now }
 {
     if !descriptor_offset_rule(r) {
         return false;
@@ -76,7 +76,7 @@ fn last_eight(r: &[u8], banks: usize, images: usize) -> bool
 
 // Whether a record is sound.
 pub fn sound_record(r: &[u8]) -> bool
-    requires { headerSize ≤ length r.now }
+    requires { header_size ≤ length r.now }
     ensures { result ≡ sound r.now }
 {
     if !first_six(r) {
@@ -87,8 +87,8 @@ pub fn sound_record(r: &[u8]) -> bool
 
 // Whether a copy is sound: its record is.
 pub fn sound_copy(c: &[u8]) -> bool
-    requires { headerSize ≤ length c.now }
-    ensures { result ≡ soundCopy c.now }
+    requires { header_size ≤ length c.now }
+    ensures { result ≡ sound_copy c.now }
 {
     sound_record(record_in(c))
 }

@@ -2,15 +2,15 @@
 // length have been tested (`Sized`) before anything here reads an entry.
 ghost use Rattle.std.specs.Prelude.{◌≡◌, ◌<◌};
 ghost use Rattle.fields.specs.Number.{le};
-ghost use Rattle.record_layout.specs.Layout.{activeAt};
-ghost use Rattle.record_layout.specs.Rules.{stateAllowed, statesRule, allAccepted, bankConsistent, banksRule};
+ghost use Rattle.record_layout.specs.Layout.{active_at};
+ghost use Rattle.record_layout.specs.Rules.{state_allowed, states_rule, all_accepted, bank_consistent, banks_rule};
 ghost use Rattle.record_layout.specs.Sized.{Sized};
 
 use record_layout::{ACCEPTED, BANK_LIMIT, INVALID, VALID, accepted_word, state};
 
 // Whether s may be the state of bank b.
 fn state_allowed(banks: usize, b: usize, s: u8) -> bool
-    ensures { result ≡ stateAllowed banks b s }
+    ensures { result ≡ state_allowed banks b s }
 {
     if s == INVALID {
         return true;
@@ -27,7 +27,7 @@ fn state_allowed(banks: usize, b: usize, s: u8) -> bool
 // R17: each bank has one of its states.
 pub fn states_rule(r: &[u8], banks: usize, images: usize) -> bool
     requires { Sized r.now banks images }
-    ensures { result ≡ statesRule r.now }
+    ensures { result ≡ states_rule r.now }
 {
     let mut b = 0;
     while b < BANK_LIMIT {
@@ -42,7 +42,7 @@ pub fn states_rule(r: &[u8], banks: usize, images: usize) -> bool
 // Whether every image of bank b is accepted.
 pub fn all_accepted(r: &[u8], banks: usize, images: usize, b: usize) -> bool
     requires { Sized r.now banks images × (b < banks) }
-    ensures { result ≡ allAccepted r.now b }
+    ensures { result ≡ all_accepted r.now b }
 {
     let mut i = 0;
     while i < images {
@@ -57,7 +57,7 @@ pub fn all_accepted(r: &[u8], banks: usize, images: usize, b: usize) -> bool
 // Whether the state of bank b fits what is accepted there.
 fn bank_consistent(r: &[u8], banks: usize, images: usize, b: usize) -> bool
     requires { Sized r.now banks images × (b < banks) }
-    ensures { result ≡ bankConsistent r.now b }
+    ensures { result ≡ bank_consistent r.now b }
 {
     let s = state(r, b);
     if s == ACCEPTED {
@@ -72,8 +72,8 @@ fn bank_consistent(r: &[u8], banks: usize, images: usize, b: usize) -> bool
 // R18: what is accepted in each bank fits its state, and the active bank is not 255. It must be one that the record
 // has.
 pub fn banks_rule(r: &[u8], banks: usize, images: usize, active: usize) -> bool
-    requires { Sized r.now banks images × (active < banks) × (active ≡ le 4 r.now activeAt) }
-    ensures { result ≡ banksRule r.now }
+    requires { Sized r.now banks images × (active < banks) × (active ≡ le 4 r.now active_at) }
+    ensures { result ≡ banks_rule r.now }
 {
     let mut b = 0;
     while b < banks {

@@ -4,26 +4,26 @@
 -- written. Assumes nothing.
 use Rattle.std.specs.Prelude.{ℕ, cond, List, [], ◌++◌}
 use Rattle.fields.specs.Guid.{same}
-use Rattle.record_layout.specs.Layout.{copySize, recordOf, copy0, copy1}
-use Rattle.record_copies.specs.Copies.{source_of, readFrom, soundAndEqual}
+use Rattle.record_layout.specs.Layout.{copy_size, record_of, copy0, copy1}
+use Rattle.record_copies.specs.Copies.{source_of, read_from, sound_and_equal}
 use Rattle.record_copies.specs.declared.Source.{Source}
 use Rattle.record_copies.specs.declared.Source.TheVariants.{Copy0, Copy1, Neither}
 use Rattle.record_stores.specs.Stores.{Store, plan}
 
 -- into the copy c, which stands at base: none where it holds the new record already
-unfoldable pub copyStores : ℕ → List ℕ → List ℕ → List Store
-copyStores base c new = cond (same (recordOf c) new) [] (plan base c new)
+unfoldable pub copy_stores : ℕ → List ℕ → List ℕ → List Store
+copy_stores base c new = cond (same (record_of c) new) [] (plan base c new)
 
 -- copy 0 whole before copy 1
-unfoldable pub changeStores : (a new : List ℕ) → List Store
-changeStores a new = copyStores 0 (copy0 a) new ++ copyStores copySize (copy1 a) new
+unfoldable pub change_stores : (a new : List ℕ) → List Store
+change_stores a new = copy_stores 0 (copy0 a) new ++ copy_stores copy_size (copy1 a) new
 
 -- the record of the copy that is read, into the other one
-unfoldable pub otherStores : Source → List ℕ → List Store
-otherStores Copy0 a = plan copySize (copy1 a) (readFrom Copy0 a)
-otherStores Copy1 a = plan 0 (copy0 a) (readFrom Copy1 a)
-otherStores Neither a = []
+unfoldable pub other_stores : Source → List ℕ → List Store
+other_stores Copy0 a = plan copy_size (copy1 a) (read_from Copy0 a)
+other_stores Copy1 a = plan 0 (copy0 a) (read_from Copy1 a)
+other_stores Neither a = []
 
 -- repair: none if the copies are sound and equal, else the record read into the other copy (R27)
-unfoldable pub repairStores : List ℕ → List Store
-repairStores a = cond (soundAndEqual a) [] (otherStores (source_of a) a)
+unfoldable pub repair_stores : List ℕ → List Store
+repair_stores a = cond (sound_and_equal a) [] (other_stores (source_of a) a)

@@ -2,12 +2,12 @@
 // into the other. One writer lists them (crate record_copy_stores), over where the words come from: a repair alters
 // nothing.
 ghost use Rattle.std.specs.Prelude.{◌≡◌, ◌≢◌, ◌≤◌, length};
-ghost use Rattle.record_layout.specs.Layout.{areaSize, copy0, recordOf};
+ghost use Rattle.record_layout.specs.Layout.{area_size, copy0, record_of};
 ghost use Rattle.record_copies.specs.Copies.{source_of};
 ghost use Rattle.record_copies.specs.declared.Source.TheVariants.{Neither};
-ghost use Rattle.record_stores.specs.Stores.{storeNumbers};
-ghost use Rattle.record_store_lists.specs.ChangeStores.{changeStores, repairStores};
-ghost use Rattle.record_alterations.specs.Altered.{recordWith, Within};
+ghost use Rattle.record_stores.specs.Stores.{store_numbers};
+ghost use Rattle.record_store_lists.specs.ChangeStores.{change_stores, repair_stores};
+ghost use Rattle.record_alterations.specs.Altered.{record_with, Within};
 ghost use Rattle.record_store_lists.specs.Lists.{Changeable, AtFront};
 
 use fields::read32;
@@ -18,8 +18,8 @@ use record_layout::{COPY, CRC_AT, bank_count};
 
 // Lists the stores that make the alteration in both copies, copy 0 whole before copy 1; none where it alters nothing.
 pub fn list_change(area: &[u8], x: Alteration, out: &mut [u32]) -> usize
-    requires { Changeable area.now out.old × Within x (recordOf (copy0 area.now)) }
-    ensures { AtFront result (changeStores area.now (recordWith x (recordOf (copy0 area.now))))
+    requires { Changeable area.now out.old × Within x (record_of (copy0 area.now)) }
+    ensures { AtFront result (change_stores area.now (record_with x (record_of (copy0 area.now))))
         out.old out.new }
 {
     let r = held_record(area);
@@ -34,8 +34,8 @@ pub fn list_change(area: &[u8], x: Alteration, out: &mut [u32]) -> usize
 
 // Lists the stores of a repair: the record read into the other copy; none where the copies are sound and equal.
 pub fn list_repair(area: &[u8], from: Source, out: &mut [u32]) -> usize
-    requires { (length area.now ≡ areaSize) × (from ≡ source_of area.now) × (from ≢ Neither) × (storeNumbers ≤ length out.old) }
-    ensures { AtFront result (repairStores area.now) out.old out.new }
+    requires { (length area.now ≡ area_size) × (from ≡ source_of area.now) × (from ≢ Neither) × (store_numbers ≤ length out.old) }
+    ensures { AtFront result (repair_stores area.now) out.old out.new }
 {
     let r = read_record(area, from);
     let banks = bank_count(r);

@@ -20,17 +20,17 @@ unfolding decide
 missed b why ts d e h = rw (e, h)
 
 -- tests before others
-pub refused-before : (xs ys : List Test) (number : ℕ) (values : List ℕ) → refusal number values ≡ decide xs → refusal number values ≡ decide (xs ++ ys)
+pub refused_before : (xs ys : List Test) (number : ℕ) (values : List ℕ) → refusal number values ≡ decide xs → refusal number values ≡ decide (xs ++ ys)
 unfolding decide
-refused-before [] ys number values e = let z : ◌≡◌ {A = ℕ} 0 1 = cc in absurd (omega arith)
-refused-before ((true, why) ∷ xs) ys number values e = e
-refused-before ((false, why) ∷ xs) ys number values e = refused-before xs ys number values e
+refused_before [] ys number values e = let z : ◌≡◌ {A = ℕ} 0 1 = cc in absurd (omega arith)
+refused_before ((true, why) ∷ xs) ys number values e = e
+refused_before ((false, why) ∷ xs) ys number values e = refused_before xs ys number values e
 
-pub passed-before : (xs ys : List Test) (d : Decision) → passed ≡ decide xs → d ≡ decide ys → d ≡ decide (xs ++ ys)
+pub passed_before : (xs ys : List Test) (d : Decision) → passed ≡ decide xs → d ≡ decide ys → d ≡ decide (xs ++ ys)
 unfolding decide
-passed-before [] ys d e h = h
-passed-before ((true, why) ∷ xs) ys d e h = absurd (never _ _ e)
-passed-before ((false, why) ∷ xs) ys d e h = passed-before xs ys d e h
+passed_before [] ys d e h = h
+passed_before ((true, why) ∷ xs) ys d e h = absurd (never _ _ e)
+passed_before ((false, why) ∷ xs) ys d e h = passed_before xs ys d e h
 
 -- and read back: what is accepted passed both parts
 pub passed_first : (xs ys : List Test) → passed ≡ decide (xs ++ ys) → (passed ≡ decide xs) × (passed ≡ decide ys)
@@ -44,11 +44,11 @@ abbrev pub NoFault : List Test → Type 0
 NoFault [] = Unit {0}
 NoFault (t ∷ ts) = (t.0 ≡ false) × NoFault ts
 
-pub no-fault : (ts : List Test) → passed ≡ decide ts → NoFault ts
+pub no_fault : (ts : List Test) → passed ≡ decide ts → NoFault ts
 unfolding decide
-no-fault [] e = tt
-no-fault ((true, why) ∷ ts) e = absurd (never _ _ e)
-no-fault ((false, why) ∷ ts) e = (refl, no-fault ts e)
+no_fault [] e = tt
+no_fault ((true, why) ∷ ts) e = absurd (never _ _ e)
+no_fault ((false, why) ∷ ts) e = (refl, no_fault ts e)
 
 -- two lists that decide alike where what stands before them found no fault
 pub same_after : (xs ys zs : List Test) → (passed ≡ decide xs → decide ys ≡ decide zs) → decide (xs ++ ys) ≡ decide (xs ++ zs)

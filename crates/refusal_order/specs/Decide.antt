@@ -16,14 +16,14 @@ abbrev pub refused : Refusal → Decision
 refused r = refusal (number_of r) (values_of r)
 
 -- what each case of a verdict states
-abbrev pub decisionOf : Verdict → Decision
-decisionOf Passed = passed
-decisionOf (Refused r) = refused r
+abbrev pub decision_of : Verdict → Decision
+decision_of Passed = passed
+decision_of (Refused r) = refused r
 
 -- its number; 0, which numbers no refusal, where it passed
-abbrev pub verdictNumber : Verdict → ℕ
-verdictNumber Passed = 0
-verdictNumber (Refused r) = number_of r
+abbrev pub verdict_number : Verdict → ℕ
+verdict_number Passed = 0
+verdict_number (Refused r) = number_of r
 
 -- a test: whether there is the fault, and the refusal that is given then
 abbrev pub Test : Type 0

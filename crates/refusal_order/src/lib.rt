@@ -1,6 +1,6 @@
 // Whether an entry passed its input, and if not, why.
 ghost use Rattle.std.specs.Prelude.{◌≡◌};
-ghost use Rattle.refusal_order.specs.Decide.{verdictNumber};
+ghost use Rattle.refusal_order.specs.Decide.{verdict_number};
 
 use refusals::Refusal;
 
@@ -13,7 +13,7 @@ pub enum Verdict {
 impl Verdict {
     // The refusal's number, or 0 for none.
     pub fn number(self) -> u32
-        ensures { result ≡ verdictNumber self }
+        ensures { result ≡ verdict_number self }
     {
         match self {
             Verdict::Passed => 0,

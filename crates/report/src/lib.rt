@@ -2,7 +2,7 @@
 ghost use Rattle.std.specs.Prelude.{◌≡◌};
 ghost use Rattle.refusals.specs.Number.{number_of};
 ghost use Rattle.report_text.specs.Wrote.{Room, Wrote};
-ghost use Rattle.report.specs.Report.{refusedLine, reportIn};
+ghost use Rattle.report.specs.Report.{refused_line, report_in};
 
 use record_copies::{Source, read_record, read_source};
 use record_layout::AREA;
@@ -15,8 +15,8 @@ pub const REPORT_LIMIT: usize = 4096;
 
 // The line of a refusal.
 fn refused_line(out: &mut [u8], refusal: Refusal) -> usize
-    requires { Room 0 (refusedLine (number_of refusal)) out.old }
-    ensures { Wrote 0 result (refusedLine (number_of refusal)) out.old out.new }
+    requires { Room 0 (refused_line (number_of refusal)) out.old }
+    ensures { Wrote 0 result (refused_line (number_of refusal)) out.old out.new }
 {
     line_of_one(out, 0, b"refused", refusal.number())
 }
@@ -24,7 +24,7 @@ fn refused_line(out: &mut [u8], refusal: Refusal) -> usize
 // Writes the report of an area at the front of `out` and answers how many bytes it has; every byte past it stays. A
 // slice below REPORT_LIMIT bytes stays whole, and the answer is 0, which no report has.
 pub fn report(area: &[u8], out: &mut [u8]) -> usize
-    ensures { (result, out.new) ≡ reportIn area.now out.old }
+    ensures { (result, out.new) ≡ report_in area.now out.old }
 {
     if out.len() < REPORT_LIMIT {
         return 0;

@@ -6,7 +6,7 @@ use Prim.Native.Nat.{ℕ, ◌+◌, ◌≤◌, ◌<◌}
 use native.Mathlib.Omega.{arith}
 use Rattle.report_text.specs.Text.{ascending}
 use Rattle.report_text.specs.Wrote.{Room, Wrote}
-use Rattle.report_text.proofs.Lines.{lines_none, lines-room, lines_more}
+use Rattle.report_text.proofs.Lines.{lines_none, lines_room, lines_more}
 
 pub record Rows (text : ℕ → List ℕ) (count k : ℕ) (d : List ℕ) (m n b : ℕ) (out : List ℕ) : Type 0 where
   pub limit : m ≡ count
@@ -17,8 +17,8 @@ pub rows_none : {text : ℕ → List ℕ} {count k m : ℕ} {d : List ℕ} → m
 rows_none {text} {count} {k} {m} {d} e h = record { limit = e; low = omega arith; wrote = lines_none text k count d h }
 
 module _ {text : ℕ → List ℕ} {count k m n b : ℕ} {d out : List ℕ} (p : Rows text count k d m n b out) where
-  pub rows-room : Room k (ascending count text) d → b < m → Room n (text b) out
-  rows-room h t = lines-room text k count d h n b out (omega (arith, p.limit)) p.wrote
+  pub rows_room : Room k (ascending count text) d → b < m → Room n (text b) out
+  rows_room h t = lines_room text k count d h n b out (omega (arith, p.limit)) p.wrote
 
   pub rows_more : {j : ℕ} {new : List ℕ} → Room k (ascending count text) d → b < m → Wrote n j (text b) out new → Rows text count k d m j (b + 1) new
   rows_more {j} {new} h t w =

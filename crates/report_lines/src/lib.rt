@@ -1,18 +1,18 @@
 // The report's lines of a sound record (T2 to T5), in a lent slice.
 ghost use Rattle.std.specs.Prelude.{◌≡◌, true, ◌<◌};
-ghost use Rattle.record_layout.specs.Layout.{bankCount, imageCount};
+ghost use Rattle.record_layout.specs.Layout.{bank_count, image_count};
 ghost use Rattle.record_layout.specs.Rules.{sound};
 ghost use Rattle.report_text.specs.Text.{ascending};
 ghost use Rattle.report_text.specs.Wrote.{Room, Wrote};
-ghost use Rattle.report_lines.specs.Lines.{bankLine, imageLine, imageLines, headLines, recordLines};
+ghost use Rattle.report_lines.specs.Lines.{bank_line, image_line, image_lines, head_lines, record_lines};
 
 use record_layout::{accepted_word, active, bank_count, image_count, previous, size, state};
 use report_text::{line_of_one, line_of_three, line_of_two};
 
 // The first three lines.
 fn head_lines(out: &mut [u8], copy: u32, r: &[u8]) -> usize
-    requires { (sound r.now ≡ true) × Room 0 (headLines copy r.now) out.old }
-    ensures { Wrote 0 result (headLines copy r.now) out.old out.new }
+    requires { (sound r.now ≡ true) × Room 0 (head_lines copy r.now) out.old }
+    ensures { Wrote 0 result (head_lines copy r.now) out.old out.new }
 {
     let n = line_of_two(out, 0, b"record", copy, size(r));
     let m = line_of_one(out, n, b"active", active(r));
@@ -21,16 +21,16 @@ fn head_lines(out: &mut [u8], copy: u32, r: &[u8]) -> usize
 
 // The line of bank b.
 fn bank_line(out: &mut [u8], k: usize, r: &[u8], b: usize) -> usize
-    requires { (sound r.now ≡ true) × (b < bankCount r.now) × Room k (bankLine r.now b) out.old }
-    ensures { Wrote k result (bankLine r.now b) out.old out.new }
+    requires { (sound r.now ≡ true) × (b < bank_count r.now) × Room k (bank_line r.now b) out.old }
+    ensures { Wrote k result (bank_line r.now b) out.old out.new }
 {
     line_of_two(out, k, b"bank", b as u32, state(r, b) as u32)
 }
 
 // The lines of all banks.
 fn bank_lines(out: &mut [u8], k: usize, r: &[u8]) -> usize
-    requires { (sound r.now ≡ true) × Room k (ascending (bankCount r.now) (bankLine r.now)) out.old }
-    ensures { Wrote k result (ascending (bankCount r.now) (bankLine r.now)) out.old out.new }
+    requires { (sound r.now ≡ true) × Room k (ascending (bank_count r.now) (bank_line r.now)) out.old }
+    ensures { Wrote k result (ascending (bank_count r.now) (bank_line r.now)) out.old out.new }
 {
     let banks = bank_count(r);
     let mut n = k;
@@ -44,8 +44,8 @@ fn bank_lines(out: &mut [u8], k: usize, r: &[u8]) -> usize
 
 // The line of image i in bank b.
 fn image_line(out: &mut [u8], k: usize, r: &[u8], i: usize, b: usize) -> usize
-    requires { (sound r.now ≡ true) × (i < imageCount r.now) × (b < bankCount r.now) × Room k (imageLine r.now i b) out.old }
-    ensures { Wrote k result (imageLine r.now i b) out.old out.new }
+    requires { (sound r.now ≡ true) × (i < image_count r.now) × (b < bank_count r.now) × Room k (image_line r.now i b) out.old }
+    ensures { Wrote k result (image_line r.now i b) out.old out.new }
 {
     let flag = accepted_word(r, bank_count(r), i, b);
     line_of_three(out, k, b"image", i as u32, b as u32, flag)
@@ -53,8 +53,8 @@ fn image_line(out: &mut [u8], k: usize, r: &[u8], i: usize, b: usize) -> usize
 
 // The lines of image i in all banks.
 fn image_lines(out: &mut [u8], k: usize, r: &[u8], i: usize) -> usize
-    requires { (sound r.now ≡ true) × (i < imageCount r.now) × Room k (imageLines r.now i) out.old }
-    ensures { Wrote k result (imageLines r.now i) out.old out.new }
+    requires { (sound r.now ≡ true) × (i < image_count r.now) × Room k (image_lines r.now i) out.old }
+    ensures { Wrote k result (image_lines r.now i) out.old out.new }
 {
     let banks = bank_count(r);
     let mut n = k;
@@ -68,8 +68,8 @@ fn image_lines(out: &mut [u8], k: usize, r: &[u8], i: usize) -> usize
 
 // The lines of all images.
 fn all_images(out: &mut [u8], k: usize, r: &[u8]) -> usize
-    requires { (sound r.now ≡ true) × Room k (ascending (imageCount r.now) (imageLines r.now)) out.old }
-    ensures { Wrote k result (ascending (imageCount r.now) (imageLines r.now))
+    requires { (sound r.now ≡ true) × Room k (ascending (image_count r.now) (image_lines r.now)) out.old }
+    ensures { Wrote k result (ascending (image_count r.now) (image_lines r.now))
         out.old out.new }
 {
     let images = image_count(r);
@@ -84,8 +84,8 @@ fn all_images(out: &mut [u8], k: usize, r: &[u8]) -> usize
 
 // The lines of the record read, from copy 0 or 1.
 pub fn record_lines(out: &mut [u8], copy: u32, r: &[u8]) -> usize
-    requires { (sound r.now ≡ true) × Room 0 (recordLines copy r.now) out.old }
-    ensures { Wrote 0 result (recordLines copy r.now) out.old out.new }
+    requires { (sound r.now ≡ true) × Room 0 (record_lines copy r.now) out.old }
+    ensures { Wrote 0 result (record_lines copy r.now) out.old out.new }
 {
     let n = head_lines(out, copy, r);
     let m = bank_lines(out, n, r);

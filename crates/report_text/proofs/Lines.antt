@@ -7,42 +7,42 @@ use native.Mathlib.Nat.{suc-mul}
 use native.Mathlib.Numerals.{add-one}
 use native.Mathlib.Omega.{arith}
 use lib.ListN.{length, length-append}
-use Rattle.fields.proofs.Tests.{le-or-lt}
+use Rattle.fields.proofs.Tests.{le_or_lt}
 use Rattle.report_text.specs.Text.{ascending}
 use Rattle.report_text.specs.Wrote.{Room, Wrote}
-use Rattle.report_text.proofs.Writing.{wrote_none, wrote_then, room-then}
+use Rattle.report_text.proofs.Writing.{wrote_none, wrote_then, room_then}
 
 module _ (text : ℕ → List ℕ) where
-  ascending-more : (b : ℕ) → ascending (b + 1) text ≡ ascending b text ++ text b
+  ascending_more : (b : ℕ) → ascending (b + 1) text ≡ ascending b text ++ text b
   unfolding ascending
-  ascending-more b = rw add-one
+  ascending_more b = rw add-one
 
   -- what is written up to b, and the text of b, are part of the whole
-  ascending-in : (n b : ℕ) → b < n → length (ascending b text ++ text b) ≤ length (ascending n text)
+  ascending_in : (n b : ℕ) → b < n → length (ascending b text ++ text b) ≤ length (ascending n text)
   unfolding ascending
-  ascending-in zero b h = absurd (omega arith)
-  ascending-in (suc n) b h =
+  ascending_in zero b h = absurd (omega arith)
+  ascending_in (suc n) b h =
       ⊎_elim
       (λ le. let z : b ≡ n = omega arith in rw z (omega arith))
-      (λ lt. rw (length-append (ascending n text) (text n)) (omega (arith, ascending-in n b lt)))
-      (le-or-lt n b)
+      (λ lt. rw (length-append (ascending n text) (text n)) (omega (arith, ascending_in n b lt)))
+      (le_or_lt n b)
 
   -- where each is at most so long, so are all together
-  pub ascending-short : (n m : ℕ) → ((b : ℕ) → b < n → length (text b) ≤ m) → length (ascending n text) ≤ n * m
+  pub ascending_short : (n m : ℕ) → ((b : ℕ) → b < n → length (text b) ≤ m) → length (ascending n text) ≤ n * m
   unfolding ascending
-  ascending-short zero m h = omega arith
-  ascending-short (suc n) m h =
-      rw length-append (omega (arith, ascending-short n m (λ b lt. h b (omega arith)), h n (omega arith), suc-mul n m))
+  ascending_short zero m h = omega arith
+  ascending_short (suc n) m h =
+      rw length-append (omega (arith, ascending_short n m (λ b lt. h b (omega arith)), h n (omega arith), suc-mul n m))
 
   module _ (k n : ℕ) (out : List ℕ) (room : Room k (ascending n text) out) where
     pub lines_none : Wrote k k (ascending 0 text) out out
     unfolding ascending
     lines_none = wrote_none k out
 
-    pub lines-room : (j b : ℕ) (new : List ℕ) → b < n → Wrote k j (ascending b text) out new → Room j (text b) new
-    lines-room j b new h p = room-then k j (ascending b text) (text b) out new (omega (arith, ascending-in n b h)) p
+    pub lines_room : (j b : ℕ) (new : List ℕ) → b < n → Wrote k j (ascending b text) out new → Room j (text b) new
+    lines_room j b new h p = room_then k j (ascending b text) (text b) out new (omega (arith, ascending_in n b h)) p
 
     pub lines_more : (j m b : ℕ) (new last : List ℕ) → b < n → Wrote k j (ascending b text) out new → Wrote j m (text b) new last
         → Wrote k m (ascending (b + 1) text) out last
     lines_more j m b new last h p q =
-        rw (ascending-more b) (wrote_then k j m (ascending b text) (text b) out new last (omega (arith, ascending-in n b h)) p q)
+        rw (ascending_more b) (wrote_then k j m (ascending b text) (text b) out new last (omega (arith, ascending_in n b h)) p q)

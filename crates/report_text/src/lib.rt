@@ -1,6 +1,6 @@
 // Lines of text in a lent slice: a word, then numbers in decimal, each behind a tab, and a line feed (T1).
 ghost use Rattle.std.specs.Prelude.{◌≡◌, [], ◌∷◌, ◌<◌};
-ghost use Rattle.report_text.specs.Text.{tab, digitOf, decimal, numbers, line};
+ghost use Rattle.report_text.specs.Text.{tab, digit_of, decimal, numbers, line};
 ghost use Rattle.report_text.specs.Wrote.{Room, Wrote};
 
 // One byte at k. Each function here answers the place behind what it wrote.
@@ -28,7 +28,7 @@ fn put_word(out: &mut [u8], k: usize, word: &[u8]) -> usize
 // The digit of a number below ten.
 fn digit(x: u32) -> u8
     requires { x < 10 }
-    ensures { result ≡ digitOf x }
+    ensures { result ≡ digit_of x }
 {
     48 + x as u8
 }

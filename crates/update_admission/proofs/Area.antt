@@ -10,16 +10,16 @@ use lib.ListN.{length}
 use denote.Enum.Declared.{tag_of}
 use types.Run.{OneOf}
 use Rattle.refusals.specs.declared.Refusal.TheVariants.{NoSoundCopy, NotSoundAndEqual}
-use Rattle.record_layout.specs.Layout.{areaSize, copy0, copy1}
-use Rattle.record_layout.specs.Rules.{soundCopy}
-use Rattle.record_copies.specs.Copies.{source_of, soundAndEqual}
+use Rattle.record_layout.specs.Layout.{area_size, copy0, copy1}
+use Rattle.record_layout.specs.Rules.{sound_copy}
+use Rattle.record_copies.specs.Copies.{source_of, sound_and_equal}
 use Rattle.record_copies.specs.declared.Source.{Source}
 use Rattle.record_copies.specs.declared.Source.TheVariants.{Copy0, Copy1, Neither}
 use Rattle.record_copies.specs.contracts.Source.{the_type}
-use Rattle.record_copies.proofs.Reading.{copy0-unsound}
-use Rattle.record_stores.specs.Stores.{storeNumbers}
+use Rattle.record_copies.proofs.Reading.{copy0_unsound}
+use Rattle.record_stores.specs.Stores.{store_numbers}
 use Rattle.refusal_order.specs.Decide.{refused, decide}
-use Rattle.update_admission.specs.Rows.{soundTest, repairTests, areaTests}
+use Rattle.update_admission.specs.Rows.{sound_test, repair_tests, area_tests}
 
 lost : (x y : Bool) → cond x Copy0 (cond y Copy1 Neither) ≡ Neither → not (x || y) ≡ true
 lost true y e = let z : ◌≡◌ {A = ℕ} 0 1 = cc in absurd (omega arith)
@@ -32,36 +32,36 @@ found false true n = refl
 found false false n = absurd (n refl)
 
 -- 21: there is no copy to be read, or there is one
-pub none-sound : (a : List ℕ) → source_of a ≡ Neither → (soundTest a).0 ≡ true
+pub none_sound : (a : List ℕ) → source_of a ≡ Neither → (sound_test a).0 ≡ true
 unfolding source_of
-none-sound a e = lost (soundCopy (copy0 a)) (soundCopy (copy1 a)) e
+none_sound a e = lost (sound_copy (copy0 a)) (sound_copy (copy1 a)) e
 
-pub one-sound : (a : List ℕ) → source_of a ≢ Neither → (soundTest a).0 ≡ false
+pub one_sound : (a : List ℕ) → source_of a ≢ Neither → (sound_test a).0 ≡ false
 unfolding source_of
-one-sound a n = found (soundCopy (copy0 a)) (soundCopy (copy1 a)) n
+one_sound a n = found (sound_copy (copy0 a)) (sound_copy (copy1 a)) n
 
 -- what a match that left out Neither tells
-pub some-copy : (s : Source) → OneOf (0 ∷ 1 ∷ []) (tag_of the_type s) → s ≢ Neither
-some-copy Copy0 h e = let z : ◌≡◌ {A = ℕ} 0 2 = cc in omega arith
-some-copy Copy1 h e = let z : ◌≡◌ {A = ℕ} 1 2 = cc in omega arith
-some-copy Neither h e = ⊎_elim (λ (z : 2 ≡ 0). omega arith) (λ (z : 2 ≡ 1). omega arith) h
+pub some_copy : (s : Source) → OneOf (0 ∷ 1 ∷ []) (tag_of the_type s) → s ≢ Neither
+some_copy Copy0 h e = let z : ◌≡◌ {A = ℕ} 0 2 = cc in omega arith
+some_copy Copy1 h e = let z : ◌≡◌ {A = ℕ} 1 2 = cc in omega arith
+some_copy Neither h e = ⊎_elim (λ (z : 2 ≡ 0). omega arith) (λ (z : 2 ≡ 1). omega arith) h
 
-pub not-copy1 : Copy1 ≢ Neither
-not-copy1 e = let z : ◌≡◌ {A = ℕ} 1 2 = cc in omega arith
+pub not_copy1 : Copy1 ≢ Neither
+not_copy1 e = let z : ◌≡◌ {A = ℕ} 1 2 = cc in omega arith
 
-pub not-copy0 : Copy0 ≢ Neither
-not-copy0 e = let z : ◌≡◌ {A = ℕ} 0 2 = cc in omega arith
+pub not_copy0 : Copy0 ≢ Neither
+not_copy0 e = let z : ◌≡◌ {A = ℕ} 0 2 = cc in omega arith
 
-module _ (a : List ℕ) (n : ℕ) (l : length a ≡ areaSize) (h : storeNumbers ≤ n) where
-  pub by-copy0 : source_of a ≡ Copy0 → decide ((not (soundAndEqual a), NotSoundAndEqual) ∷ []) ≡ decide (areaTests a n)
-  unfolding decide areaTests repairTests
-  by-copy0 e = rw (eq-eqb (length a) areaSize l, le-ltb n storeNumbers h, one-sound a (rw e not-copy0))
+module _ (a : List ℕ) (n : ℕ) (l : length a ≡ area_size) (h : store_numbers ≤ n) where
+  pub by_copy0 : source_of a ≡ Copy0 → decide ((not (sound_and_equal a), NotSoundAndEqual) ∷ []) ≡ decide (area_tests a n)
+  unfolding decide area_tests repair_tests
+  by_copy0 e = rw (eq-eqb (length a) area_size l, le-ltb n store_numbers h, one_sound a (rw e not_copy0))
 
-  pub by-copy1 : source_of a ≡ Copy1 → refused NotSoundAndEqual ≡ decide (areaTests a n)
-  unfolding decide areaTests repairTests soundAndEqual
-  by-copy1 e =
-      rw (eq-eqb (length a) areaSize l, le-ltb n storeNumbers h, one-sound a (rw e not-copy1), copy0-unsound a e)
+  pub by_copy1 : source_of a ≡ Copy1 → refused NotSoundAndEqual ≡ decide (area_tests a n)
+  unfolding decide area_tests repair_tests sound_and_equal
+  by_copy1 e =
+      rw (eq-eqb (length a) area_size l, le-ltb n store_numbers h, one_sound a (rw e not_copy1), copy0_unsound a e)
 
-  pub by-neither : source_of a ≡ Neither → refused NoSoundCopy ≡ decide (areaTests a n)
-  unfolding decide areaTests repairTests
-  by-neither e = rw (eq-eqb (length a) areaSize l, le-ltb n storeNumbers h, none-sound a e)
+  pub by_neither : source_of a ≡ Neither → refused NoSoundCopy ≡ decide (area_tests a n)
+  unfolding decide area_tests repair_tests
+  by_neither e = rw (eq-eqb (length a) area_size l, le-ltb n store_numbers h, none_sound a e)

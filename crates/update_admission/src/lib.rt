@@ -1,8 +1,8 @@
 // What every call tests of the area and the store slice before it looks at its session: 20, 23, 21 and 22 (N110). The
 // tests themselves, which start-up, repair, the report and the directory's writer list too, are in specs/Rows.antt.
 ghost use Rattle.std.specs.Prelude.{◌≡◌};
-ghost use Rattle.refusal_order.specs.Decide.{decide, decisionOf};
-ghost use Rattle.update_admission.specs.Rows.{areaTests};
+ghost use Rattle.refusal_order.specs.Decide.{decide, decision_of};
+ghost use Rattle.update_admission.specs.Rows.{area_tests};
 
 use record_copies::{Source, read_source, second_agrees};
 use record_layout::AREA;
@@ -12,7 +12,7 @@ use refusals::Refusal;
 
 // 20, 23, 21 and 22, in that order.
 pub fn admit_area(area: &[u8], numbers: usize) -> Verdict
-    ensures { decisionOf result ≡ decide (areaTests area.now numbers) }
+    ensures { decision_of result ≡ decide (area_tests area.now numbers) }
 {
     if area.len() != AREA {
         return Verdict::Refused(Refusal::AreaLength);

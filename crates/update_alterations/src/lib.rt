@@ -1,11 +1,11 @@
 // What each change alters in the record (S6, S8, S10, S13, S16), as words.
 ghost use Rattle.std.specs.Prelude.{◌≡◌, true, cond, ◌<◌, eqb};
 ghost use Rattle.fields.specs.Number.{le};
-ghost use Rattle.record_layout.specs.Layout.{stateAt, active, bankCount, imageCount};
-ghost use Rattle.record_layout.specs.Rules.{acceptedBank, valid, allAccepted, sound};
-ghost use Rattle.record_alterations.specs.Fields.{setState};
-ghost use Rattle.update_changes.specs.NewRecord.{begunRecord, committedRecord, endedRecord, marked, acceptedRecord, exchangedRecord};
-ghost use Rattle.update_changes.specs.Changed.{changedBy, Names};
+ghost use Rattle.record_layout.specs.Layout.{state_at, active, bank_count, image_count};
+ghost use Rattle.record_layout.specs.Rules.{accepted_bank, valid, all_accepted, sound};
+ghost use Rattle.record_alterations.specs.Fields.{set_state};
+ghost use Rattle.update_changes.specs.NewRecord.{begun_record, committed_record, ended_record, marked, accepted_record, exchanged_record};
+ghost use Rattle.update_changes.specs.Changed.{changed_by, Names};
 ghost use Rattle.update_alterations.specs.Makes.{Makes, with_full};
 
 use record_alterations::{Alteration, unaltered};
@@ -16,7 +16,7 @@ use update_changes::{Change, all_accepted_after, states_with, update_bank};
 // Begin: the update bank 255 with all images unaccepted (S6).
 fn begin_alteration(r: &[u8]) -> Alteration
     requires { sound r.now ≡ true }
-    ensures { Makes result r.now (begunRecord r.now) }
+    ensures { Makes result r.now (begun_record r.now) }
 {
     let bank = update_bank(r);
     let images = image_count(r);
@@ -39,8 +39,8 @@ fn flag_for(request: u32) -> u32
 
 // Commit of image i, in the update bank (S8).
 fn commit_alteration(r: &[u8], i: usize, request: u32) -> Alteration
-    requires { (sound r.now ≡ true) × (i < imageCount r.now) }
-    ensures { Makes result r.now (committedRecord i request r.now) }
+    requires { (sound r.now ≡ true) × (i < image_count r.now) }
+    ensures { Makes result r.now (committed_record i request r.now) }
 {
     let mut x = unaltered(r);
     x.bank = update_bank(r);
@@ -52,8 +52,8 @@ fn commit_alteration(r: &[u8], i: usize, request: u32) -> Alteration
 
 // The state that End gives bank b (S10).
 fn end_state(r: &[u8], b: usize) -> u8
-    requires { (sound r.now ≡ true) × (b < bankCount r.now) }
-    ensures { result ≡ cond (allAccepted r.now b) acceptedBank valid }
+    requires { (sound r.now ≡ true) × (b < bank_count r.now) }
+    ensures { result ≡ cond (all_accepted r.now b) accepted_bank valid }
 {
     if all_accepted(r, bank_count(r), image_count(r), b) {
         return ACCEPTED;
@@ -64,7 +64,7 @@ fn end_state(r: &[u8], b: usize) -> u8
 // End: previous takes active, active takes the update bank (S10).
 fn end_alteration(r: &[u8]) -> Alteration
     requires { sound r.now ≡ true }
-    ensures { Makes result r.now (endedRecord r.now) }
+    ensures { Makes result r.now (ended_record r.now) }
 {
     let bank = update_bank(r);
     let s = end_state(r, bank);
@@ -77,8 +77,8 @@ fn end_alteration(r: &[u8]) -> Alteration
 
 // The bank states once image i is accepted in the active bank (S13).
 fn accept_states(r: &[u8], i: usize) -> u32
-    requires { (sound r.now ≡ true) × (i < imageCount r.now) }
-    ensures { result ≡ le 4 (with_full i r.now) (stateAt 0) }
+    requires { (sound r.now ≡ true) × (i < image_count r.now) }
+    ensures { result ≡ le 4 (with_full i r.now) (state_at 0) }
 {
     if all_accepted_after(r, i) {
         return states_with(r, active(r) as usize, ACCEPTED);
@@ -88,8 +88,8 @@ fn accept_states(r: &[u8], i: usize) -> u32
 
 // Accept of image i, in the active bank (S13).
 fn accept_alteration(r: &[u8], i: usize) -> Alteration
-    requires { (sound r.now ≡ true) × (i < imageCount r.now) }
-    ensures { Makes result r.now (acceptedRecord i r.now) }
+    requires { (sound r.now ≡ true) × (i < image_count r.now) }
+    ensures { Makes result r.now (accepted_record i r.now) }
 {
     let mut x = unaltered(r);
     x.states = accept_states(r, i);
@@ -103,7 +103,7 @@ fn accept_alteration(r: &[u8], i: usize) -> Alteration
 // Select previous: active and previous exchanged (S16).
 fn exchange_alteration(r: &[u8]) -> Alteration
     requires { sound r.now ≡ true }
-    ensures { Makes result r.now (exchangedRecord r.now) }
+    ensures { Makes result r.now (exchanged_record r.now) }
 {
     let mut x = unaltered(r);
     let bank = x.active;
@@ -115,7 +115,7 @@ fn exchange_alteration(r: &[u8]) -> Alteration
 // The words that a change alters.
 pub fn alteration_for(r: &[u8], change: Change) -> Alteration
     requires { (sound r.now ≡ true) × Names change r.now }
-    ensures { Makes result r.now (changedBy change r.now) }
+    ensures { Makes result r.now (changed_by change r.now) }
 {
     match change {
         Change::Nothing => {

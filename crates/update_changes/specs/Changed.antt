@@ -1,8 +1,8 @@
 -- The calls, and the record that each makes (S17). r is the bytes of the old record, g those of a type GUID. Assumes
 -- nothing.
 use Rattle.std.specs.Prelude.{ℕ, ◌<◌, List}
-use Rattle.record_layout.specs.Layout.{imageCount}
-use Rattle.update_changes.specs.NewRecord.{imageWith, begunRecord, committedRecord, endedRecord, acceptedRecord, exchangedRecord}
+use Rattle.record_layout.specs.Layout.{image_count}
+use Rattle.update_changes.specs.NewRecord.{image_with, begun_record, committed_record, ended_record, accepted_record, exchanged_record}
 use Rattle.update_changes.specs.declared.Change.{Change}
 use Rattle.update_changes.specs.declared.Change.TheVariants.{Nothing, Begin, Commit, End, Accept, Exchange}
 
@@ -13,35 +13,35 @@ pub data Call : Type 0 where
   end : Call
   cancel : Call
   accept : (g : List ℕ) → Call
-  selectPrevious : Call
+  select_previous : Call
 
 -- what a call alters; Cancel nothing
-unfoldable pub changeOf : Call → (r : List ℕ) → Change
-changeOf begin r = Begin
-changeOf (commit g request) r = Commit (imageWith g r) request
-changeOf end r = End
-changeOf cancel r = Nothing
-changeOf (accept g) r = Accept (imageWith g r)
-changeOf selectPrevious r = Exchange
+unfoldable pub change_of : Call → (r : List ℕ) → Change
+change_of begin r = Begin
+change_of (commit g request) r = Commit (image_with g r) request
+change_of end r = End
+change_of cancel r = Nothing
+change_of (accept g) r = Accept (image_with g r)
+change_of select_previous r = Exchange
 
 -- the record that it makes of r
-unfoldable pub changedBy : Change → (r : List ℕ) → List ℕ
-changedBy Nothing r = r
-changedBy Begin r = begunRecord r
-changedBy (Commit i request) r = committedRecord i request r
-changedBy End r = endedRecord r
-changedBy (Accept i) r = acceptedRecord i r
-changedBy Exchange r = exchangedRecord r
+unfoldable pub changed_by : Change → (r : List ℕ) → List ℕ
+changed_by Nothing r = r
+changed_by Begin r = begun_record r
+changed_by (Commit i request) r = committed_record i request r
+changed_by End r = ended_record r
+changed_by (Accept i) r = accepted_record i r
+changed_by Exchange r = exchanged_record r
 
 -- the new record: the old with what the call alters, its CRC worked anew (S17)
-unfoldable pub newRecord : Call → (r : List ℕ) → List ℕ
-newRecord k r = changedBy (changeOf k r) r
+unfoldable pub new_record : Call → (r : List ℕ) → List ℕ
+new_record k r = changed_by (change_of k r) r
 
 -- the image that a change names is one that the record has: what the functions that list a change ask
 abbrev pub Names : Change → (r : List ℕ) → Type 0
 Names Nothing r = Unit {0}
 Names Begin r = Unit {0}
-Names (Commit i request) r = i < imageCount r
+Names (Commit i request) r = i < image_count r
 Names End r = Unit {0}
-Names (Accept i) r = i < imageCount r
+Names (Accept i) r = i < image_count r
 Names Exchange r = Unit {0}

@@ -3,10 +3,10 @@
 // copied.
 ghost use Rattle.std.specs.Prelude.{◌≡◌, true, ◌+◌, ◌*◌, ◌<◌, eqb, length};
 ghost use Rattle.fields.specs.Number.{le};
-ghost use Rattle.record_layout.specs.Layout.{bankLimit, accepted, active, previous, state, stateAt, bankCount, imageCount};
-ghost use Rattle.record_layout.specs.Rules.{acceptedBank, allAccepted, sound};
-ghost use Rattle.record_alterations.specs.Fields.{setState};
-ghost use Rattle.update_changes.specs.NewRecord.{updateBankOf, imageWith, marked};
+ghost use Rattle.record_layout.specs.Layout.{bank_limit, accepted, active, previous, state, state_at, bank_count, image_count};
+ghost use Rattle.record_layout.specs.Rules.{accepted_bank, all_accepted, sound};
+ghost use Rattle.record_alterations.specs.Fields.{set_state};
+ghost use Rattle.update_changes.specs.NewRecord.{update_bank_of, image_with, marked};
 
 use fields::same_guid;
 use record_layout::{
@@ -28,7 +28,7 @@ pub enum Change {
 // The image with that type GUID, or the image count where no entry has it.
 pub fn image_of(r: &[u8], guid: &[u8]) -> usize
     requires { (sound r.now ≡ true) × (length guid.now ≡ 16) }
-    ensures { result ≡ imageWith guid.now r.now }
+    ensures { result ≡ image_with guid.now r.now }
 {
     let banks = bank_count(r);
     let images = image_count(r);
@@ -44,7 +44,7 @@ pub fn image_of(r: &[u8], guid: &[u8]) -> usize
 
 // Whether image k of the active bank is accepted once image i is.
 fn accepted_after(r: &[u8], i: usize, k: usize) -> bool
-    requires { (sound r.now ≡ true) × (i < imageCount r.now) × (k < imageCount r.now) }
+    requires { (sound r.now ≡ true) × (i < image_count r.now) × (k < image_count r.now) }
     ensures { result ≡ eqb (accepted (marked i r.now) k (active r.now)) 1 }
 {
     if k == i {
@@ -55,8 +55,8 @@ fn accepted_after(r: &[u8], i: usize, k: usize) -> bool
 
 // Whether every image of the active bank is accepted once image i is.
 pub fn all_accepted_after(r: &[u8], i: usize) -> bool
-    requires { (sound r.now ≡ true) × (i < imageCount r.now) }
-    ensures { result ≡ allAccepted (marked i r.now) (active r.now) }
+    requires { (sound r.now ≡ true) × (i < image_count r.now) }
+    ensures { result ≡ all_accepted (marked i r.now) (active r.now) }
 {
     let images = image_count(r);
     let mut k = 0;
@@ -71,8 +71,8 @@ pub fn all_accepted_after(r: &[u8], i: usize) -> bool
 
 // The state of bank k once that of bank b is s.
 fn state_with(r: &[u8], b: usize, s: u8, k: usize) -> u8
-    requires { (sound r.now ≡ true) × (b < bankCount r.now) × (k < bankLimit) }
-    ensures { result ≡ state (setState b s r.now) k }
+    requires { (sound r.now ≡ true) × (b < bank_count r.now) × (k < bank_limit) }
+    ensures { result ≡ state (set_state b s r.now) k }
 {
     if k == b {
         return s;
@@ -89,8 +89,8 @@ fn pair(low: u8, high: u8) -> u32
 
 // The word of the four bank states once that of bank b is s.
 pub fn states_with(r: &[u8], b: usize, s: u8) -> u32
-    requires { (sound r.now ≡ true) × (b < bankCount r.now) }
-    ensures { result ≡ le 4 (setState b s r.now) (stateAt 0) }
+    requires { (sound r.now ≡ true) × (b < bank_count r.now) }
+    ensures { result ≡ le 4 (set_state b s r.now) (state_at 0) }
 {
     let low = pair(state_with(r, b, s, 0), state_with(r, b, s, 1));
     let high = pair(state_with(r, b, s, 2), state_with(r, b, s, 3));
@@ -100,7 +100,7 @@ pub fn states_with(r: &[u8], b: usize, s: u8) -> u32
 // The update bank (S4).
 pub fn update_bank(r: &[u8]) -> usize
     requires { sound r.now ≡ true }
-    ensures { (result ≡ updateBankOf r.now) × (result < bankCount r.now) }
+    ensures { (result ≡ update_bank_of r.now) × (result < bank_count r.now) }
 {
     let banks = bank_count(r);
     (active(r) as usize + 1) % banks
@@ -109,7 +109,7 @@ pub fn update_bank(r: &[u8]) -> usize
 // Whether the previous bank is accepted.
 pub fn previous_accepted(r: &[u8]) -> bool
     requires { sound r.now ≡ true }
-    ensures { result ≡ eqb (state r.now (previous r.now)) acceptedBank }
+    ensures { result ≡ eqb (state r.now (previous r.now)) accepted_bank }
 {
     let bank = previous(r) as usize;
     state(r, bank) == ACCEPTED

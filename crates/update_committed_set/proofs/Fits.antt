@@ -10,15 +10,15 @@ use borrow.Author.Tests.{eqb-true, ltb-true, eq-eqb, le-leb, lt-leb, lt-ltb, le-
 use lib.Count.{count_leading_zeros, leading_length}
 use lib.Dec.{eqb, leb, ltb}
 use lib.Pow.{pow_mono}
-use Rattle.fields.proofs.Tests.{both, le-or-lt}
-use Rattle.record_layout.specs.Layout.{state, imageCount}
+use Rattle.fields.proofs.Tests.{both, le_or_lt}
+use Rattle.record_layout.specs.Layout.{state, image_count}
 use Rattle.record_layout.specs.Rules.{invalid}
-use Rattle.update_changes.specs.NewRecord.{updateBankOf}
-use Rattle.update_committed_set.specs.Set.{setBits, stagedFits}
+use Rattle.update_changes.specs.NewRecord.{update_bank_of}
+use Rattle.update_committed_set.specs.Set.{set_bits, staged_fits}
 
 -- a number of `width` bits is below 2 to the power of n exactly if enough of its bits stand above its highest one
-pub above-highest : (width n set : ℕ) → set < 2 ^ width → leb width (n + count_leading_zeros width set) ≡ ltb set (2 ^ n)
-above-highest width n set h =
+pub above_highest : (width n set : ℕ) → set < 2 ^ width → leb width (n + count_leading_zeros width set) ≡ ltb set (2 ^ n)
+above_highest width n set h =
     let z = leading_length width set h in
     let m = z.0 in
     ⊎_elim
@@ -27,22 +27,22 @@ above-highest width n set h =
     (λ (many : n < m).
     let top : 2 * 2 ^ n ≤ 2 ^ m = rw (← pow-succ' 2 n) (pow_mono many) in
     lt-leb width (n + count_leading_zeros width set) (omega (arith, z.1, many)) ∙ sym (le-ltb set (2 ^ n) (omega (arith, top, z.3))))
-    (le-or-lt m n)
+    (le_or_lt m n)
 
 -- 24, where bank and state are right
-pub set-decides : (bank set k : ℕ) (r : List ℕ) → bank ≡ updateBankOf r → state r bank ≡ 255 → k ≡ imageCount r → set < 2 ^ setBits
-    → leb setBits (k + count_leading_zeros setBits set) ≡ stagedFits bank set r
-unfolding stagedFits
-set-decides bank set k r b s i h = rw (above-highest setBits k set h, eq-eqb bank (updateBankOf r) b, eq-eqb (state r bank) 255 s, i)
+pub set_decides : (bank set k : ℕ) (r : List ℕ) → bank ≡ update_bank_of r → state r bank ≡ 255 → k ≡ image_count r → set < 2 ^ set_bits
+    → leb set_bits (k + count_leading_zeros set_bits set) ≡ staged_fits bank set r
+unfolding staged_fits
+set_decides bank set k r b s i h = rw (above_highest set_bits k set h, eq-eqb bank (update_bank_of r) b, eq-eqb (state r bank) 255 s, i)
 
 -- what fits
-pub fit_parts : (bank set : ℕ) (r : List ℕ) → stagedFits bank set r ≡ true
-    → (bank ≡ updateBankOf r) × (state r bank ≡ invalid) × (set < 2 ^ imageCount r)
-unfolding stagedFits
+pub fit_parts : (bank set : ℕ) (r : List ℕ) → staged_fits bank set r ≡ true
+    → (bank ≡ update_bank_of r) × (state r bank ≡ invalid) × (set < 2 ^ image_count r)
+unfolding staged_fits
 fit_parts bank set r e =
-    let p = both (eqb bank (updateBankOf r)) (eqb (state r bank) invalid && ltb set (2 ^ imageCount r)) e in
-    let q = both (eqb (state r bank) invalid) (ltb set (2 ^ imageCount r)) p.1 in
-    (eqb-true bank (updateBankOf r) p.0, eqb-true (state r bank) invalid q.0, ltb-true set (2 ^ imageCount r) q.1)
+    let p = both (eqb bank (update_bank_of r)) (eqb (state r bank) invalid && ltb set (2 ^ image_count r)) e in
+    let q = both (eqb (state r bank) invalid) (ltb set (2 ^ image_count r)) p.1 in
+    (eqb-true bank (update_bank_of r) p.0, eqb-true (state r bank) invalid q.0, ltb-true set (2 ^ image_count r) q.1)
 
-pub set_below : (bank set : ℕ) (r : List ℕ) → stagedFits bank set r ≡ true → set < 2 ^ imageCount r
+pub set_below : (bank set : ℕ) (r : List ℕ) → staged_fits bank set r ≡ true → set < 2 ^ image_count r
 set_below bank set r e = (fit_parts bank set r e).2

@@ -1,9 +1,9 @@
 // The set of committed images (S1): whether a Staging session's bank and set fit a record (N24), and how many images
 // the set lacks (N27).
 ghost use Rattle.std.specs.Prelude.{◌≡◌, true, ◌<◌, ◌^◌};
-ghost use Rattle.record_layout.specs.Layout.{imageCount};
+ghost use Rattle.record_layout.specs.Layout.{image_count};
 ghost use Rattle.record_layout.specs.Rules.{sound};
-ghost use Rattle.update_committed_set.specs.Set.{setBits, joined, missing, stagedFits};
+ghost use Rattle.update_committed_set.specs.Set.{set_bits, joined, missing, staged_fits};
 
 use record_layout::{INVALID, image_count, state};
 use update_changes::update_bank;
@@ -15,7 +15,7 @@ const SET_BITS: u32 = 32;
 // any number.
 pub fn staged(r: &[u8], bank: u32, set: u32) -> bool
     requires { sound r.now ≡ true }
-    ensures { result ≡ stagedFits bank set r.now }
+    ensures { result ≡ staged_fits bank set r.now }
 {
     if bank as usize != update_bank(r) {
         return false;
@@ -31,7 +31,7 @@ pub fn staged(r: &[u8], bank: u32, set: u32) -> bool
 
 // The set with image i too.
 pub fn with_image(set: u32, i: usize) -> u32
-    requires { i < setBits }
+    requires { i < set_bits }
     ensures { result ≡ joined i set }
 {
     set | (1u32 << (i as u32))
@@ -39,7 +39,7 @@ pub fn with_image(set: u32, i: usize) -> u32
 
 // How many images are not in the set: the image count less its count of ones.
 pub fn missing_images(r: &[u8], set: u32) -> u32
-    requires { (sound r.now ≡ true) × (set < 2 ^ imageCount r.now) }
+    requires { (sound r.now ≡ true) × (set < 2 ^ image_count r.now) }
     ensures { result ≡ missing set r.now }
 {
     let images = image_count(r) as u32;

@@ -1,24 +1,24 @@
--- What repair answers and lists (R27). Its stores are `repairStores` of
+-- What repair answers and lists (R27). Its stores are `repair_stores` of
 -- crates/record_store_lists/specs/ChangeStores.antt; what must hold of them is said in crates/proof_power_cuts/specs. a
 -- is the bytes of the area, s the numbers of the store slice. Assumes nothing.
 use Rattle.std.specs.Prelude.{ℕ, List, length}
 use Rattle.refusal_order.specs.Decide.{Decision, passed, refusal, decide, Reply, gives, refuses, refusing}
 use Rattle.record_stores.specs.Stores.{with_list}
-use Rattle.record_store_lists.specs.ChangeStores.{repairStores}
-use Rattle.update_admission.specs.Rows.{repairTests}
+use Rattle.record_store_lists.specs.ChangeStores.{repair_stores}
+use Rattle.update_admission.specs.Rows.{repair_tests}
 use Rattle.update_repair.specs.declared.Repaired.{Repaired}
 use Rattle.update_repair.specs.declared.Repaired.TheVariants.{Listed, Refused}
 
 -- what each case of the answer states: how many pairs stand in the store list
-abbrev pub repairReply : Repaired → Reply ℕ
-repairReply (Listed n) = gives n
-repairReply (Refused r) = refusing r
+abbrev pub repair_reply : Repaired → Reply ℕ
+repair_reply (Listed n) = gives n
+repair_reply (Refused r) = refusing r
 
 -- accepted with a list at the slice's front, or refused with the slice as it was
-unfoldable pub repairedBy : Decision → (a s : List ℕ) → Reply ℕ × List ℕ
-repairedBy passed a s = (gives (length (repairStores a)), with_list s (repairStores a))
-repairedBy (refusal number values) a s = (refuses number values, s)
+unfoldable pub repaired_by : Decision → (a s : List ℕ) → Reply ℕ × List ℕ
+repaired_by passed a s = (gives (length (repair_stores a)), with_list s (repair_stores a))
+repaired_by (refusal number values) a s = (refuses number values, s)
 
 -- the answer, and the store slice afterwards; 20, 23, 21
 unfoldable pub repaired : (a s : List ℕ) → Reply ℕ × List ℕ
-repaired a s = repairedBy (decide (repairTests a (length s))) a s
+repaired a s = repaired_by (decide (repair_tests a (length s))) a s

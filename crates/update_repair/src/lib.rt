@@ -1,6 +1,6 @@
 // Repair (R27): the stores that put the record read into the other copy. Refusals 20, 23, 21.
 ghost use Rattle.std.specs.Prelude.{◌≡◌};
-ghost use Rattle.update_repair.specs.Repair.{repairReply, repaired};
+ghost use Rattle.update_repair.specs.Repair.{repair_reply, repaired};
 
 use record_copies::{Source, read_source};
 use record_layout::AREA;
@@ -18,7 +18,7 @@ pub enum Repaired {
 // Lists in `out` the stores that make the copies sound and equal: pairs of an offset and a word, to be done in list
 // order. Numbers past the list stay, and on a refusal every number does.
 pub fn repair(area: &[u8], out: &mut [u32]) -> Repaired
-    ensures { (repairReply result, out.new) ≡ repaired area.now out.old }
+    ensures { (repair_reply result, out.new) ≡ repaired area.now out.old }
 {
     if area.len() != AREA {
         return Repaired::Refused(Refusal::AreaLength);

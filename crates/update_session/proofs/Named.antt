@@ -12,12 +12,12 @@ use Rattle.update_session.specs.declared.Session.TheVariants.{Regular, Staging, 
 use Rattle.update_session.specs.Sessions.{kind_of, among}
 use Rattle.update_session.specs.contracts.Session.{the_type}
 
-kind-is : (q : Session) → tag_of the_type q ≡ kind_of q
-kind-is Regular = refl
-kind-is (Staging bank set) = refl
-kind-is Trial = refl
-kind-is Fallback = refl
-kind-is Restart = refl
+kind_is : (q : Session) → tag_of the_type q ≡ kind_of q
+kind_is Regular = refl
+kind_is (Staging bank set) = refl
+kind_is Trial = refl
+kind_is Fallback = refl
+kind_is Restart = refl
 
 -- b of each of the numbers: that it is in the list, or that it is not
 abbrev agrees : Bool → Bool → Bool
@@ -41,4 +41,4 @@ one_of b (k ∷ k' ∷ ks) ns x (inr h) e = one_of b (k' ∷ ks) ns x h (both (a
 
 -- whether a session that a match told to be one of those is among the named: `refl` shows the last premise
 pub named_by : (b : Bool) (q : Session) (ks ns : List ℕ) → OneOf ks (tag_of the_type q) → each b ks ns ≡ true → among (kind_of q) ns ≡ b
-named_by b q ks ns h e = one_of b ks ns (kind_of q) (rw (kind-is q) at h) e
+named_by b q ks ns h e = one_of b ks ns (kind_of q) (rw (kind_is q) at h) e

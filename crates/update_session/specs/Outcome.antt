@@ -2,20 +2,20 @@
 -- tells beside, and how many pairs (offset, word) stand in the store list. Assumes nothing.
 use Rattle.std.specs.Prelude.{ℕ}
 use Rattle.refusals.specs.declared.Refusal.{Refusal}
-use Rattle.refusal_order.specs.Decide.{Decision, passed, refused, decisionOf}
+use Rattle.refusal_order.specs.Decide.{Decision, passed, refused, decision_of}
 use Rattle.update_session.specs.declared.Session.{Session}
 use Rattle.update_session.specs.declared.Answer.{Answer}
 
 abbrev pub Outcome : Type 0
 Outcome = Session × Decision × ℕ
 
-abbrev pub outcomeOf : Answer → Outcome
-outcomeOf a = (a.session, decisionOf a.verdict, a.stores)
+abbrev pub outcome_of : Answer → Outcome
+outcome_of a = (a.session, decision_of a.verdict, a.stores)
 
 -- refused: the session as it was, and no list
-abbrev pub refusedWith : Session → Refusal → Outcome
-refusedWith s r = (s, refused r, 0)
+abbrev pub refused_with : Session → Refusal → Outcome
+refused_with s r = (s, refused r, 0)
 
 -- passed: the next session, and how many pairs are listed
-abbrev pub passedWith : Session → ℕ → Outcome
-passedWith s n = (s, passed, n)
+abbrev pub passed_with : Session → ℕ → Outcome
+passed_with s n = (s, passed, n)

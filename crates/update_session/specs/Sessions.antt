@@ -1,6 +1,6 @@
 -- The five sessions by their kind, and what Staging carries (S1); the sessions that each call is for. Assumes nothing.
 use Rattle.std.specs.Prelude.{ℕ, Bool, false, ◌||◌, List, [], ◌∷◌, eqb}
-use Rattle.update_changes.specs.Changed.{Call, begin, commit, end, cancel, accept, selectPrevious}
+use Rattle.update_changes.specs.Changed.{Call, begin, commit, end, cancel, accept, select_previous}
 use Rattle.update_session.specs.declared.Session.{Session}
 use Rattle.update_session.specs.declared.Session.TheVariants.{Regular, Staging, Trial, Fallback, Restart}
 
@@ -28,19 +28,19 @@ kind_of Fallback = fallback
 kind_of Restart = restart
 
 -- the bank and the set of Staging; of any other session both are 0, and no test that reads them decides
-abbrev pub bankOf : Session → ℕ
-bankOf (Staging bank set) = bank
-bankOf Regular = 0
-bankOf Trial = 0
-bankOf Fallback = 0
-bankOf Restart = 0
+abbrev pub bank_of : Session → ℕ
+bank_of (Staging bank set) = bank
+bank_of Regular = 0
+bank_of Trial = 0
+bank_of Fallback = 0
+bank_of Restart = 0
 
-abbrev pub setOf : Session → ℕ
-setOf (Staging bank set) = set
-setOf Regular = 0
-setOf Trial = 0
-setOf Fallback = 0
-setOf Restart = 0
+abbrev pub set_of : Session → ℕ
+set_of (Staging bank set) = set
+set_of Regular = 0
+set_of Trial = 0
+set_of Fallback = 0
+set_of Restart = 0
 
 -- whether a kind is one of a list
 abbrev pub among : ℕ → List ℕ → Bool
@@ -48,10 +48,10 @@ among k [] = false
 among k (x ∷ xs) = eqb k x || among k xs
 
 -- the sessions that a call is for (S5, S7, S9, S11, S12, S15)
-abbrev pub namedFor : Call → List ℕ
-namedFor begin = regular ∷ staging ∷ []
-namedFor (commit g request) = staging ∷ []
-namedFor end = staging ∷ []
-namedFor cancel = staging ∷ []
-namedFor (accept g) = trial ∷ []
-namedFor selectPrevious = trial ∷ fallback ∷ []
+abbrev pub named_for : Call → List ℕ
+named_for begin = regular ∷ staging ∷ []
+named_for (commit g request) = staging ∷ []
+named_for end = staging ∷ []
+named_for cancel = staging ∷ []
+named_for (accept g) = trial ∷ []
+named_for select_previous = trial ∷ fallback ∷ []

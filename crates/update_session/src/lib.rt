@@ -2,13 +2,13 @@
 // is tested for every session first, once and before the call looks at which session it is, then its own; a refusal
 // hands the session back as it was, with no list.
 ghost use Rattle.std.specs.Prelude.{◌≡◌, true, ◌<◌};
-ghost use Rattle.record_layout.specs.Layout.{imageCount};
+ghost use Rattle.record_layout.specs.Layout.{image_count};
 ghost use Rattle.record_layout.specs.Rules.{sound};
 ghost use Rattle.record_store_lists.specs.Lists.{Changeable};
-ghost use Rattle.update_changes.specs.Changed.{begin, commit, end, cancel, accept, selectPrevious, changedBy, Names};
-ghost use Rattle.refusal_order.specs.Decide.{decide, decisionOf};
-ghost use Rattle.update_session.specs.Outcome.{outcomeOf, refusedWith, passedWith};
-ghost use Rattle.update_session.specs.Calls.{commonTests, held, afterAccept, changedTo, answered};
+ghost use Rattle.update_changes.specs.Changed.{begin, commit, end, cancel, accept, select_previous, changed_by, Names};
+ghost use Rattle.refusal_order.specs.Decide.{decide, decision_of};
+ghost use Rattle.update_session.specs.Outcome.{outcome_of, refused_with, passed_with};
+ghost use Rattle.update_session.specs.Calls.{common_tests, held, after_accept, changed_to, answered};
 
 use record_copies::held_record;
 use record_layout::image_count;
@@ -41,7 +41,7 @@ pub struct Answer {
 impl Answer {
     // Refused: no list.
     pub fn refused(session: Session, refusal: Refusal) -> Answer
-        ensures { outcomeOf result ≡ refusedWith session refusal }
+        ensures { outcome_of result ≡ refused_with session refusal }
     {
         Answer {
             session,
@@ -52,7 +52,7 @@ impl Answer {
 
     // Passed, with a list of that many pairs.
     pub fn passed(session: Session, stores: usize) -> Answer
-        ensures { outcomeOf result ≡ passedWith session stores }
+        ensures { outcome_of result ≡ passed_with session stores }
     {
         Answer {
             session,
@@ -65,8 +65,8 @@ impl Answer {
 // The change is made: its stores are listed, and the call leads to `next`.
 fn changed(next: Session, area: &[u8], change: Change, out: &mut [u32]) -> Answer
     requires { Changeable area.now out.old × Names change (held area.now) }
-    ensures { (outcomeOf result, out.new)
-        ≡ changedTo (next, changedBy change (held area.now)) area.now out.old }
+    ensures { (outcome_of result, out.new)
+        ≡ changed_to (next, changed_by change (held area.now)) area.now out.old }
 {
     let x = alteration_for(held_record(area), change);
     let stores = list_change(area, x, out);
@@ -75,8 +75,8 @@ fn changed(next: Session, area: &[u8], change: Change, out: &mut [u32]) -> Answe
 
 // Where Accept of image i leads: Regular once every image of the active bank is accepted, else Trial.
 fn after_accept(r: &[u8], i: usize) -> Session
-    requires { (sound r.now ≡ true) × (i < imageCount r.now) }
-    ensures { result ≡ afterAccept i r.now }
+    requires { (sound r.now ≡ true) × (i < image_count r.now) }
+    ensures { result ≡ after_accept i r.now }
 {
     if all_accepted_after(r, i) {
         return Session::Regular;
@@ -87,7 +87,7 @@ fn after_accept(r: &[u8], i: usize) -> Session
 impl Session {
     // 20, 23, 21, 22 and 24, in that order.
     fn admit(self, area: &[u8], numbers: usize) -> Verdict
-        ensures { decisionOf result ≡ decide (commonTests self area.now numbers) }
+        ensures { decision_of result ≡ decide (common_tests self area.now numbers) }
     {
         let verdict = admit_area(area, numbers);
         if let Verdict::Refused(_) = verdict {
@@ -105,7 +105,7 @@ impl Session {
     // Begin, for Regular and Staging (S5, S6). Lists in `out` the stores of the change: pairs of an offset and a word,
     // to be done in list order. Numbers past the list stay, and on a refusal every number does. So with each call.
     pub fn begin(self, area: &[u8], out: &mut [u32]) -> Answer
-        ensures { (outcomeOf result, out.new) ≡ answered begin self area.now out.old }
+        ensures { (outcome_of result, out.new) ≡ answered begin self area.now out.old }
     {
         let verdict = self.admit(area, out.len());
         if let Verdict::Refused(why) = verdict {
@@ -124,7 +124,7 @@ impl Session {
 
     // Commit, for Staging, of the image with that type GUID (S7, S8).
     pub fn commit(self, area: &[u8], guid: [u8; 16], request: u32, out: &mut [u32]) -> Answer
-        ensures { (outcomeOf result, out.new) ≡ answered (commit guid request) self area.now out.old }
+        ensures { (outcome_of result, out.new) ≡ answered (commit guid request) self area.now out.old }
     {
         let verdict = self.admit(area, out.len());
         if let Verdict::Refused(why) = verdict {
@@ -149,7 +149,7 @@ impl Session {
 
     // End, for Staging (S9, S10).
     pub fn end(self, area: &[u8], out: &mut [u32]) -> Answer
-        ensures { (outcomeOf result, out.new) ≡ answered end self area.now out.old }
+        ensures { (outcome_of result, out.new) ≡ answered end self area.now out.old }
     {
         let verdict = self.admit(area, out.len());
         if let Verdict::Refused(why) = verdict {
@@ -167,7 +167,7 @@ impl Session {
 
     // Cancel, for Staging: it changes nothing in the record, so nothing is listed (S11).
     pub fn cancel(self, area: &[u8], out: &mut [u32]) -> Answer
-        ensures { (outcomeOf result, out.new) ≡ answered cancel self area.now out.old }
+        ensures { (outcome_of result, out.new) ≡ answered cancel self area.now out.old }
     {
         let verdict = self.admit(area, out.len());
         if let Verdict::Refused(why) = verdict {
@@ -181,7 +181,7 @@ impl Session {
 
     // Accept, for Trial, of the image with that type GUID (S12 to S14).
     pub fn accept(self, area: &[u8], guid: [u8; 16], out: &mut [u32]) -> Answer
-        ensures { (outcomeOf result, out.new) ≡ answered (accept guid) self area.now out.old }
+        ensures { (outcome_of result, out.new) ≡ answered (accept guid) self area.now out.old }
     {
         let verdict = self.admit(area, out.len());
         if let Verdict::Refused(why) = verdict {
@@ -201,7 +201,7 @@ impl Session {
 
     // Select previous, for Trial and Fallback (S15, S16).
     pub fn select_previous(self, area: &[u8], out: &mut [u32]) -> Answer
-        ensures { (outcomeOf result, out.new) ≡ answered selectPrevious self area.now out.old }
+        ensures { (outcome_of result, out.new) ≡ answered select_previous self area.now out.old }
     {
         let verdict = self.admit(area, out.len());
         if let Verdict::Refused(why) = verdict {

@@ -3,36 +3,36 @@
 use Rattle.std.specs.Prelude.{ℕ, cond, List, [], ◌∷◌, ◌++◌, eqb, leb}
 use Rattle.refusals.specs.declared.Refusal.TheVariants.{BootedBank}
 use Rattle.refusal_order.specs.Decide.{Test, decide, Reply, gives, refusing, reply}
-use Rattle.record_layout.specs.Layout.{active, state, bankCount}
-use Rattle.record_layout.specs.Rules.{acceptedBank}
-use Rattle.record_copies.specs.Copies.{recordRead}
-use Rattle.update_admission.specs.Rows.{readTests}
+use Rattle.record_layout.specs.Layout.{active, state, bank_count}
+use Rattle.record_layout.specs.Rules.{accepted_bank}
+use Rattle.record_copies.specs.Copies.{record_read}
+use Rattle.update_admission.specs.Rows.{read_tests}
 use Rattle.update_session.specs.declared.Session.{Session}
 use Rattle.update_session.specs.declared.Session.TheVariants.{Regular, Trial, Fallback}
 use Rattle.update_start_up.specs.declared.Started.{Started}
 use Rattle.update_start_up.specs.declared.Started.TheVariants.{In, Refused}
 
 -- what each case of the answer states
-abbrev pub startReply : Started → Reply Session
-startReply (In q) = gives q
-startReply (Refused r) = refusing r
+abbrev pub start_reply : Started → Reply Session
+start_reply (In q) = gives q
+start_reply (Refused r) = refusing r
 
 -- the session, by the booted bank and the active one's state (S2)
-unfoldable pub startedSession : List ℕ → ℕ → Session
-startedSession r booted = cond (eqb booted (active r)) (cond (eqb (state r (active r)) acceptedBank) Regular Trial) Fallback
+unfoldable pub started_session : List ℕ → ℕ → Session
+started_session r booted = cond (eqb booted (active r)) (cond (eqb (state r (active r)) accepted_bank) Regular Trial) Fallback
 
 -- N28: the booted bank is at or past the bank count
-abbrev pub bootedTest : (r : List ℕ) (booted : ℕ) → Test
-bootedTest r booted = (leb (bankCount r) booted, BootedBank)
+abbrev pub booted_test : (r : List ℕ) (booted : ℕ) → Test
+booted_test r booted = (leb (bank_count r) booted, BootedBank)
 
 -- what a record that is read gives: the session, or 28
-unfoldable pub startedFrom : List ℕ → ℕ → Reply Session
-startedFrom r booted = reply (decide (bootedTest r booted ∷ [])) (startedSession r booted)
+unfoldable pub started_from : List ℕ → ℕ → Reply Session
+started_from r booted = reply (decide (booted_test r booted ∷ [])) (started_session r booted)
 
 -- 20, 21, 28
-unfoldable pub startUpTests : (a : List ℕ) (booted : ℕ) → List Test
-startUpTests a booted = readTests a ++ (bootedTest (recordRead a) booted ∷ [])
+unfoldable pub start_up_tests : (a : List ℕ) (booted : ℕ) → List Test
+start_up_tests a booted = read_tests a ++ (booted_test (record_read a) booted ∷ [])
 
 -- the session that the record read and the booted bank give, or the first fault
-unfoldable pub startUp : List ℕ → ℕ → Reply Session
-startUp a booted = reply (decide (startUpTests a booted)) (startedSession (recordRead a) booted)
+unfoldable pub start_up_of : List ℕ → ℕ → Reply Session
+start_up_of a booted = reply (decide (start_up_tests a booted)) (started_session (record_read a) booted)

@@ -1,7 +1,7 @@
 // Start-up (S2): the session that an area and the booted bank give. Refusals 20, 21, 28.
 ghost use Rattle.std.specs.Prelude.{◌≡◌, true};
 ghost use Rattle.record_layout.specs.Rules.{sound};
-ghost use Rattle.update_start_up.specs.StartUp.{startReply, startedFrom, startUp};
+ghost use Rattle.update_start_up.specs.StartUp.{start_reply, started_from, start_up_of};
 
 use record_copies::{Source, read_record, read_source};
 use record_layout::{ACCEPTED, AREA, active, bank_count, state};
@@ -18,7 +18,7 @@ pub enum Started {
 // What a sound record and the booted bank give. It serves directory_writer too.
 pub fn session_from(r: &[u8], booted: u32) -> Started
     requires { sound r.now ≡ true }
-    ensures { startReply result ≡ startedFrom r.now booted }
+    ensures { start_reply result ≡ started_from r.now booted }
 {
     let bank = booted as usize;
     if bank_count(r) <= bank {
@@ -35,7 +35,7 @@ pub fn session_from(r: &[u8], booted: u32) -> Started
 
 // Reads the area and answers the session, given the bank that booted. Nothing is changed.
 pub fn start_up(area: &[u8], booted: u32) -> Started
-    ensures { startReply result ≡ startUp area.now booted }
+    ensures { start_reply result ≡ start_up_of area.now booted }
 {
     if area.len() != AREA {
         return Started::Refused(Refusal::AreaLength);

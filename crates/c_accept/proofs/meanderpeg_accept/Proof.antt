@@ -1,13 +1,13 @@
 -- `meanderpeg_accept` meets its contract. Assumes nothing.
 use borrow.Author.Rules.{rules}
-use Rattle.c_answer.proofs.Exported.{exported-call}
+use Rattle.c_answer.proofs.Exported.{exported_call}
 use Rattle.c_accept.proofs.meanderpeg_accept.Statement.{statement}
 use Rattle.c_accept.proofs.meanderpeg_accept.Tie as tie
 
 returns : tie.Need-returns
 returns c =
     let b = c.before.before.before in
-    exported-call _ _ _ _ b.before.before.before.session-named.ensures b.accept.ensures c.answer-in-numbers.ensures
+    exported_call _ _ _ _ b.before.before.before.session-named.ensures b.accept.ensures c.answer-in-numbers.ensures
 
 pub meanderpeg-accept-spec : {M : Type 1} → statement M
 meanderpeg-accept-spec =

@@ -6,16 +6,16 @@ use mathlib.Core.List.{List}
 use borrow.Author.Tests.{not-true, not-false}
 use borrow.Author.Rules.{rules}
 use Rattle.record_layout.specs.Layout.{copy0, copy1}
-use Rattle.record_layout.specs.Rules.{soundCopy}
-use Rattle.record_copies.specs.Copies.{recordsEqual, soundAndEqual}
-use Rattle.c_area.specs.Soundness.{soundCopies}
+use Rattle.record_layout.specs.Rules.{sound_copy}
+use Rattle.record_copies.specs.Copies.{records_equal, sound_and_equal}
+use Rattle.c_area.specs.Soundness.{sound_copies}
 use Rattle.c_area.proofs.sound_copies.Statement.{statement}
 use Rattle.c_area.proofs.sound_copies.Tie as tie
 
 -- the bits, from what was found of each copy and of their records
-bits : (a : List ℕ) (x y e : Bool) → x ≡ soundCopy (copy0 a) → y ≡ soundCopy (copy1 a) → e ≡ recordsEqual a
-    → cond x 1 0 + (cond y 2 0 + cond ((x && y) && e) 4 0) ≡ soundCopies a
-unfolding soundCopies soundAndEqual
+bits : (a : List ℕ) (x y e : Bool) → x ≡ sound_copy (copy0 a) → y ≡ sound_copy (copy1 a) → e ≡ records_equal a
+    → cond x 1 0 + (cond y 2 0 + cond ((x && y) && e) 4 0) ≡ sound_copies a
+unfolding sound_copies sound_and_equal
 bits a x y e h0 h1 h2 = rw (h0, h1, h2)
 
 returns : tie.Need-returns
@@ -38,7 +38,7 @@ returns-3 c =
 
 -- both copies are sound
 both : (e : Bool) (c : tie.After-records-equal) → e ≡ c.records-equal.result
-    → 1 + (2 + cond e 4 0) ≡ soundCopies c.before.before.before.before.before.before.before.before.args.area.now
+    → 1 + (2 + cond e 4 0) ≡ sound_copies c.before.before.before.before.before.before.before.before.args.area.now
 both e c h =
     let b = c.before in
     let s = b.before.before in

@@ -1,13 +1,13 @@
 -- `meanderpeg_cancel` meets its contract. Assumes nothing.
 use borrow.Author.Rules.{rules}
-use Rattle.c_answer.proofs.Exported.{exported-call}
+use Rattle.c_answer.proofs.Exported.{exported_call}
 use Rattle.c_begin.proofs.meanderpeg_cancel.Statement.{statement}
 use Rattle.c_begin.proofs.meanderpeg_cancel.Tie as tie
 
 returns : tie.Need-returns
 returns c =
     let b = c.before.before.before in
-    exported-call _ _ _ _ b.before.before.session-named.ensures b.cancel.ensures c.answer-in-numbers.ensures
+    exported_call _ _ _ _ b.before.before.session-named.ensures b.cancel.ensures c.answer-in-numbers.ensures
 
 pub meanderpeg-cancel-spec : {M : Type 1} → statement M
 meanderpeg-cancel-spec =

@@ -1,13 +1,13 @@
 -- `meanderpeg_end` meets its contract. Assumes nothing.
 use borrow.Author.Rules.{rules}
-use Rattle.c_answer.proofs.Exported.{exported-call}
+use Rattle.c_answer.proofs.Exported.{exported_call}
 use Rattle.c_commit.proofs.meanderpeg_end.Statement.{statement}
 use Rattle.c_commit.proofs.meanderpeg_end.Tie as tie
 
 returns : tie.Need-returns
 returns c =
     let b = c.before.before.before in
-    exported-call _ _ _ _ b.before.before.session-named.ensures b.end.ensures c.answer-in-numbers.ensures
+    exported_call _ _ _ _ b.before.before.session-named.ensures b.end.ensures c.answer-in-numbers.ensures
 
 pub meanderpeg-end-spec : {M : Type 1} → statement M
 meanderpeg-end-spec =

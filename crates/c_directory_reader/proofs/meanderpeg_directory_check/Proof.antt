@@ -2,14 +2,14 @@
 use mathlib.Core.Path.{sym, ap, ◌∙◌}
 use native.Mathlib.Omega.{arith}
 use borrow.Author.Rules.{rules}
-use Rattle.refusal_order.specs.Decide.{decisionOf, reply}
-use Rattle.directory_reader.specs.Reader.{shownImages, shownCorrectBoot}
+use Rattle.refusal_order.specs.Decide.{decision_of, reply}
+use Rattle.directory_reader.specs.Reader.{shown_images, shown_correct_boot}
 use Rattle.directory_reader.proofs.Taken.{Taken, taken}
 use Rattle.c_directory_reader.proofs.meanderpeg_directory_check.Statement.{statement}
 use Rattle.c_directory_reader.proofs.meanderpeg_directory_check.Tie as tie
 
 known : (c : tie.After-enum-told) → Taken c.before.before.before.before.args.d.now
-known c = taken _ (sym c.before.before.refusal.ensures ∙ ap decisionOf c.enum_told.given.1)
+known c = taken _ (sym c.before.before.refusal.ensures ∙ ap decision_of c.enum_told.given.1)
 
 read32-requires : tie.Need-read32-requires
 read32-requires c κs = omega (arith, (known c).long)
@@ -18,7 +18,7 @@ read32-requires-2 : tie.Need-read32-requires-2
 read32-requires-2 c κs = omega (arith, (known c.before).long)
 
 returns : tie.Need-returns
-unfolding reply shownImages shownCorrectBoot
+unfolding reply shown_images shown_correct_boot
 returns c =
     let y = c.before in
     let x = y.before in

@@ -1,16 +1,16 @@
 -- `meanderpeg_directory_numbers` meets its contract. Assumes nothing.
 use mathlib.Core.Path.{sym, ap, ◌∙◌}
 use borrow.Author.Rules.{rules}
-use Rattle.refusal_order.specs.Decide.{decisionOf, reply}
-use Rattle.directory_values.specs.Values.{shownNumbers}
+use Rattle.refusal_order.specs.Decide.{decision_of, reply}
+use Rattle.directory_values.specs.Values.{shown_numbers}
 use Rattle.c_directory_values.proofs.meanderpeg_directory_numbers.Statement.{statement}
 use Rattle.c_directory_values.proofs.meanderpeg_directory_numbers.Tie as tie
 
 numbers-or-zeros-requires : tie.Need-numbers-or-zeros-requires
-numbers-or-zeros-requires c κs = sym c.before.before.refusal.ensures ∙ ap decisionOf c.enum_told.given.1
+numbers-or-zeros-requires c κs = sym c.before.before.refusal.ensures ∙ ap decision_of c.enum_told.given.1
 
 returns : tie.Need-returns
-unfolding reply shownNumbers
+unfolding reply shown_numbers
 returns c =
     let n = c.before in
     let t = n.before in

@@ -3,21 +3,21 @@ use mathlib.Core.Path.{◌≡◌, sym, ap, ◌∙◌}
 use borrow.Author.Rules.{rules}
 use Rattle.fields.specs.Part.{range_of, Lies}
 use Rattle.fields.proofs.Part.{part_length}
-use Rattle.refusal_order.specs.Decide.{decisionOf, decide, passed, reply}
-use Rattle.directory_reader.specs.Reader.{readerTests}
-use Rattle.directory_values.specs.Values.{shownGuid}
-use Rattle.directory_values.proofs.Lies.{guid-lies}
+use Rattle.refusal_order.specs.Decide.{decision_of, decide, passed, reply}
+use Rattle.directory_reader.specs.Reader.{reader_tests}
+use Rattle.directory_values.specs.Values.{shown_guid}
+use Rattle.directory_values.proofs.Lies.{guid_lies}
 use Rattle.c_directory_values.proofs.meanderpeg_directory_type_guid.Statement.{statement}
 use Rattle.c_directory_values.proofs.meanderpeg_directory_type_guid.Tie as tie
 
 -- the directory is taken
-passes : (c : tie.After-enum-told) → decide (readerTests c.before.before.before.before.args.d.now) ≡ passed
-passes c = sym c.before.before.refusal.ensures ∙ ap decisionOf c.enum_told.given.1
+passes : (c : tie.After-enum-told) → decide (reader_tests c.before.before.before.before.args.d.now) ≡ passed
+passes c = sym c.before.before.refusal.ensures ∙ ap decision_of c.enum_told.given.1
 
 lies : (c : tie.After-guid-span) → Lies c.before.before.before.before.before.args.d.now (range_of c.guid-span.result)
 lies c =
     let a = c.before.before.before.before.before.args in
-    rw c.guid-span.ensures (guid-lies a.d.now a.k (passes c.before))
+    rw c.guid-span.ensures (guid_lies a.d.now a.k (passes c.before))
 
 guid-span-requires : tie.Need-guid-span-requires
 guid-span-requires c κs = passes c
@@ -26,7 +26,7 @@ sub-t8 : tie.Need-overflow-sub-t8
 sub-t8 c = (lies c.before).ordered
 
 returns : tie.Need-returns
-unfolding reply shownGuid
+unfolding reply shown_guid
 returns c =
     let g = c.before.before in
     let t = g.before in

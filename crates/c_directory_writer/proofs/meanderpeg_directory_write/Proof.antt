@@ -4,7 +4,7 @@ use mathlib.Core.List.{List}
 use Prim.Native.Nat.{ℕ}
 use borrow.Author.Rules.{rules}
 use Rattle.refusal_order.specs.Decide.{Reply}
-use Rattle.directory_writer.specs.Writer.{writtenReply}
+use Rattle.directory_writer.specs.Writer.{written_reply}
 use Rattle.c_directory_writer.proofs.meanderpeg_directory_write.Statement.{statement}
 use Rattle.c_directory_writer.proofs.meanderpeg_directory_write.Tie as tie
 

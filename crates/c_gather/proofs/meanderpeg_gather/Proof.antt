@@ -4,7 +4,7 @@ use mathlib.Core.List.{List}
 use Prim.Native.Nat.{ℕ}
 use borrow.Author.Rules.{rules}
 use Rattle.gather.specs.Gather.{Answer, refusal, place}
-use Rattle.c_gather.specs.Gather.{exportedPlace}
+use Rattle.c_gather.specs.Gather.{exported_place}
 use Rattle.c_gather.proofs.meanderpeg_gather.Statement.{statement}
 use Rattle.c_gather.proofs.meanderpeg_gather.Tie as tie
 

@@ -3,13 +3,13 @@ use borrow.Author.Rules.{rules}
 use Rattle.refusal_order.specs.Decide.{reply}
 use Rattle.fields.specs.Part.{Lies}
 use Rattle.fields.proofs.Part.{part_length}
-use Rattle.capsule_parts.specs.Parts.{imageTold}
-use Rattle.capsule_parts.proofs.Parts.{parts-lie}
+use Rattle.capsule_parts.specs.Parts.{image_told}
+use Rattle.capsule_parts.proofs.Parts.{parts_lie}
 use Rattle.c_image.proofs.meanderpeg_capsule_image.Statement.{statement}
 use Rattle.c_image.proofs.meanderpeg_capsule_image.Tie as tie
 
-lies : (c : tie.After-places-of) → Lies c.before.before.args.s.now (imageTold c.places_of.result)
-lies c = let a = c.before.before.args in rw (← c.places_of.ensures.0) at (parts-lie a.s.now a.k).image
+lies : (c : tie.After-places-of) → Lies c.before.before.args.s.now (image_told c.places_of.result)
+lies c = let a = c.before.before.args in rw (← c.places_of.ensures.0) at (parts_lie a.s.now a.k).image
 
 sub : tie.Need-overflow-sub-t8
 sub c = (lies c.before.before.before).ordered

@@ -4,14 +4,14 @@ use mathlib.Core.List.{List}
 use Prim.Native.Nat.{ℕ}
 use borrow.Author.Rules.{rules}
 use Rattle.refusal_order.specs.Decide.{reply}
-use Rattle.capsule_check.specs.Verdict.{itemVerdict}
+use Rattle.capsule_check.specs.Verdict.{item_verdict}
 use Rattle.capsule_check.specs.Item.{located}
 use Rattle.capsule_check.specs.declared.Item.{Item}
-use Rattle.capsule_check.proofs.Places.{told, told-judged}
+use Rattle.capsule_check.proofs.Places.{told, told_judged}
 use Rattle.fields.specs.Part.{Lies}
 use Rattle.fields.proofs.Part.{part_length}
-use Rattle.capsule_items.specs.Items.{itemPart}
-use Rattle.capsule_items.proofs.Items.{item-lies}
+use Rattle.capsule_items.specs.Items.{item_part}
+use Rattle.capsule_items.proofs.Items.{item_lies}
 use Rattle.c_item.proofs.meanderpeg_capsule_item.Statement.{statement}
 use Rattle.c_item.proofs.meanderpeg_capsule_item.Tie as tie
 
@@ -20,11 +20,11 @@ module _ (c : tie.After-locate) (i : Item) (is : c.locate.result ≡ i) where
   found : located c.before.before.args.s.now c.before.before.args.k ≡ i
   found = sym c.locate.ensures ∙ is
 
-  verdict : itemVerdict c.before.before.args.s.now c.before.before.args.k ≡ told i
-  verdict = let a = c.before.before.args in sym (told-judged a.s.now a.k) ∙ ap told found
+  verdict : item_verdict c.before.before.args.s.now c.before.before.args.k ≡ told i
+  verdict = let a = c.before.before.args in sym (told_judged a.s.now a.k) ∙ ap told found
 
-  lies : Lies c.before.before.args.s.now (itemPart i)
-  lies = let a = c.before.before.args in rw found at (item-lies a.s.now a.k)
+  lies : Lies c.before.before.args.s.now (item_part i)
+  lies = let a = c.before.before.args in rw found at (item_lies a.s.now a.k)
 
 set-driver : tie.Need-set-part-requires
 set-driver c κs = let f = c.before.before in (lies f.before.before _ f.found.given.1).ordered

@@ -4,7 +4,7 @@ use mathlib.Core.List.{List}
 use Prim.Native.Nat.{ℕ}
 use borrow.Author.Rules.{rules}
 use Rattle.refusal_order.specs.Decide.{Reply}
-use Rattle.capsule_packing_rules.specs.Rules.{packedReply}
+use Rattle.capsule_packing_rules.specs.Rules.{packed_reply}
 use Rattle.c_packing.proofs.meanderpeg_capsule_pack.Statement.{statement}
 use Rattle.c_packing.proofs.meanderpeg_capsule_pack.Tie as tie
 

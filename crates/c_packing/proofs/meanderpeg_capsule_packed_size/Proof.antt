@@ -1,6 +1,6 @@
 -- `meanderpeg_capsule_packed_size` meets its contract. Assumes nothing.
 use borrow.Author.Rules.{rules}
-use Rattle.capsule_packing_rules.specs.Rules.{packedReply}
+use Rattle.capsule_packing_rules.specs.Rules.{packed_reply}
 use Rattle.c_packing.proofs.meanderpeg_capsule_packed_size.Statement.{statement}
 use Rattle.c_packing.proofs.meanderpeg_capsule_packed_size.Tie as tie
 

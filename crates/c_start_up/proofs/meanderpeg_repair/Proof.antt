@@ -6,7 +6,7 @@ use Rattle.c_start_up.proofs.meanderpeg_repair.Tie as tie
 returns : tie.Need-returns
 returns c =
     let t = c.before.before.before in
-    rw (← t.before.before.before.before.repair.ensures, t.done.given.1, ← c.before.no-session.ensures, c.refused.ensures)
+    rw (← t.before.before.before.before.repair.ensures, t.done.given.1, ← c.before.no_session_stays.ensures, c.refused.ensures)
 
 returns-2 : tie.Need-returns-2
 returns-2 c =

@@ -3,13 +3,13 @@ use borrow.Author.Rules.{rules}
 use Rattle.refusal_order.specs.Decide.{reply}
 use Rattle.fields.specs.Part.{Lies}
 use Rattle.fields.proofs.Part.{part_length}
-use Rattle.capsule_parts.specs.Parts.{vendorCodeTold}
-use Rattle.capsule_parts.proofs.Parts.{parts-lie}
+use Rattle.capsule_parts.specs.Parts.{vendor_code_told}
+use Rattle.capsule_parts.proofs.Parts.{parts_lie}
 use Rattle.c_vendor_code.proofs.meanderpeg_capsule_vendor_code.Statement.{statement}
 use Rattle.c_vendor_code.proofs.meanderpeg_capsule_vendor_code.Tie as tie
 
-lies : (c : tie.After-places-of) → Lies c.before.before.args.s.now (vendorCodeTold c.places_of.result)
-lies c = let a = c.before.before.args in rw (← c.places_of.ensures.1) at (parts-lie a.s.now a.k).vendorCode
+lies : (c : tie.After-places-of) → Lies c.before.before.args.s.now (vendor_code_told c.places_of.result)
+lies c = let a = c.before.before.args in rw (← c.places_of.ensures.1) at (parts_lie a.s.now a.k).vendor_code
 
 sub : tie.Need-overflow-sub-t8
 sub c = (lies c.before.before.before).ordered

@@ -6,23 +6,23 @@ use native.Mathlib.Omega.{arith}
 use borrow.Author.Tests.{le-leb, lt-leb, eq-eqb, ne_eqb}
 use lib.ListN.{length}
 use Rattle.fields.specs.Number.{le}
-use Rattle.capsule_body.specs.Body.{bodyVersion, drivers, payloads, bodyRight}
+use Rattle.capsule_body.specs.Body.{body_version, drivers, payloads, body_right}
 use Rattle.capsule_body.proofs.body_right.Statement.{statement}
 use Rattle.capsule_body.proofs.body_right.Tie as tie
 
 returns : tie.Need-returns
-unfolding bodyRight
+unfolding body_right
 returns c = simp (lt-leb 8 (length c.before.before.args.b.now) c.if1.true)
 
 returns-2 : tie.Need-returns-2
-unfolding bodyRight bodyVersion
+unfolding body_right body_version
 returns-2 c =
     let b = c.before.before.before.before.args.b.now in
     let r = c.before.read32 in
     simp (le-leb 8 (length b) (omega arith), ne_eqb (le 4 b 0) 1 (λ e. c.if2.true (r.ensures ∙ e)))
 
 returns-3 : tie.Need-returns-3
-unfolding bodyRight bodyVersion drivers payloads
+unfolding body_right body_version drivers payloads
 returns-3 c =
     let b = c.before.before.before.before.before.before.before.args.b.now in
     simp (le-leb 8 (length b) (omega arith), eq-eqb (le 4 b 0) 1 (omega arith), lt-leb (le 2 b 4 + le 2 b 6) 64 (omega arith))
@@ -32,7 +32,7 @@ unfolding drivers payloads
 offsets-right-requires c κs = omega arith
 
 returns-4 : tie.Need-returns-4
-unfolding bodyRight bodyVersion drivers payloads
+unfolding body_right body_version drivers payloads
 returns-4 c =
     let b = c.before.before.before.before.before.before.before.before.args.b.now in
     simp (le-leb 8 (length b) (omega arith), eq-eqb (le 4 b 0) 1 (omega arith), le-leb (le 2 b 4 + le 2 b 6) 64 (omega arith)) c.offsets-right.ensures

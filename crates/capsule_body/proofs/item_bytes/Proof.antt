@@ -3,7 +3,7 @@ use borrow.Author.Rules.{rules}
 use native.Mathlib.Omega.{arith}
 use Prim.Native.Nat.{◌<◌, ◌≤◌}
 use lib.ListN.{length}
-use Rattle.capsule_body.specs.Body.{offset, itemEnd, item}
+use Rattle.capsule_body.specs.Body.{offset, item_end, item}
 use Rattle.capsule_body.proofs.Body.{item_in}
 use Rattle.capsule_body.proofs.item_bytes.Statement.{statement}
 use Rattle.capsule_body.proofs.item_bytes.Tie as tie
@@ -11,7 +11,7 @@ use Rattle.capsule_body.proofs.item_bytes.Tie as tie
 -- the item's place is in the body
 inside : (c : tie.After-item-end)
     → let a = c.before.before.before.args in
-    (offset a.b.now a.k < itemEnd a.b.now a.k) × (itemEnd a.b.now a.k ≤ length a.b.now)
+    (offset a.b.now a.k < item_end a.b.now a.k) × (item_end a.b.now a.k ≤ length a.b.now)
 inside c =
     let s = c.before.before.before in
     item_in s.args.b.now s.requires.0 s.args.k (omega arith)

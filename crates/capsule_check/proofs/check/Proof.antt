@@ -5,9 +5,9 @@ use mathlib.Core.Bool.{true}
 use borrow.Author.Tests.{le-leb, lt-leb, not-true, not-false}
 use lib.Dec.{leb}
 use lib.ListN.{length}
-use Rattle.capsule_header.specs.Header.{sizesRight, flags, flagsRight, guidRight, body}
-use Rattle.capsule_body.specs.Body.{bodyRight}
-use Rattle.capsule_payloads.specs.Payload.{payloadsRight}
+use Rattle.capsule_header.specs.Header.{sizes_right, flags, flags_right, guid_right, body}
+use Rattle.capsule_body.specs.Body.{body_right}
+use Rattle.capsule_payloads.specs.Payload.{payloads_right}
 use Rattle.refusals.specs.declared.Refusal.TheVariants.{CapsulePayload}
 use Rattle.capsule_check.specs.Verdict.{unless, verdict}
 use Rattle.refusal_order.specs.declared.Verdict.TheVariants.{Passed}
@@ -18,27 +18,27 @@ use Rattle.capsule_check.proofs.check.Tie as tie
 long-enough : (c : tie.Else1) → leb 28 (length c.before.before.args.s.now) ≡ true
 long-enough c = le-leb 28 (length c.before.before.args.s.now) c.if1.false
 
-sized : (c : tie.Else2) → sizesRight c.before.before.before.before.args.s.now ≡ true
+sized : (c : tie.Else2) → sizes_right c.before.before.before.before.args.s.now ≡ true
 sized c = let r = c.before.sizes-right in sym r.ensures ∙ not-false r.result c.if2.false
 
-flags-read : (c : tie.After-flags-right) → flagsRight (flags c.before.before.before.before.before.before.args.s.now) ≡ c.flags-right.result
+flags_read : (c : tie.After-flags-right) → flags_right (flags c.before.before.before.before.before.before.args.s.now) ≡ c.flags-right.result
 unfolding flags
-flags-read c = ap flagsRight (sym c.before.read32.ensures) ∙ sym c.flags-right.ensures
+flags_read c = ap flags_right (sym c.before.read32.ensures) ∙ sym c.flags-right.ensures
 
-flagged : (c : tie.Else3) → flagsRight (flags c.before.before.before.before.before.before.before.args.s.now) ≡ true
-flagged c = flags-read c.before ∙ not-false c.before.flags-right.result c.if3.false
+flagged : (c : tie.Else3) → flags_right (flags c.before.before.before.before.before.before.before.args.s.now) ≡ true
+flagged c = flags_read c.before ∙ not-false c.before.flags-right.result c.if3.false
 
-named : (c : tie.Else4) → guidRight c.before.before.before.before.before.before.before.before.before.args.s.now ≡ true
+named : (c : tie.Else4) → guid_right c.before.before.before.before.before.before.before.before.before.args.s.now ≡ true
 named c = let r = c.before.guid-right in sym r.ensures ∙ not-false r.result c.if4.false
 
-body-read : (c : tie.After-body-right) → bodyRight (body c.before.before.before.before.before.before.before.before.before.before.before.args.s.now) ≡ c.body-right.result
-body-read c = ap bodyRight (sym c.before.body_of.ensures) ∙ sym c.body-right.ensures
+body_read : (c : tie.After-body-right) → body_right (body c.before.before.before.before.before.before.before.before.before.before.before.args.s.now) ≡ c.body-right.result
+body_read c = ap body_right (sym c.before.body_of.ensures) ∙ sym c.body-right.ensures
 
-bodied : (c : tie.Else5) → bodyRight (body c.before.before.before.before.before.before.before.before.before.before.before.before.args.s.now) ≡ true
-bodied c = body-read c.before ∙ not-false c.before.body-right.result c.if5.false
+bodied : (c : tie.Else5) → body_right (body c.before.before.before.before.before.before.before.before.before.before.before.before.args.s.now) ≡ true
+bodied c = body_read c.before ∙ not-false c.before.body-right.result c.if5.false
 
-payloads-read : (c : tie.After-payloads-right) → payloadsRight (body c.before.before.before.before.before.before.before.before.before.before.before.before.before.args.s.now) ≡ c.payloads-right.result
-payloads-read c = ap payloadsRight (sym c.before.before.before.body_of.ensures) ∙ sym c.payloads-right.ensures
+payloads_read : (c : tie.After-payloads-right) → payloads_right (body c.before.before.before.before.before.before.before.before.before.before.before.before.before.args.s.now) ≡ c.payloads-right.result
+payloads_read c = ap payloads_right (sym c.before.before.before.body_of.ensures) ∙ sym c.payloads-right.ensures
 
 returns : tie.Need-returns
 unfolding verdict
@@ -55,7 +55,7 @@ unfolding verdict
 returns-3 c =
     let r = c.before.flags-right in
     let b = c.before.before.before in
-    rw (long-enough b.before.before, sized b, flags-read c.before ∙ not-true r.result c.if3.true)
+    rw (long-enough b.before.before, sized b, flags_read c.before ∙ not-true r.result c.if3.true)
 
 returns-4 : tie.Need-returns-4
 unfolding verdict
@@ -75,7 +75,7 @@ returns-5 c =
     let g = c.before.before.before in
     let f = g.before.before in
     let b = f.before.before.before in
-    rw (long-enough b.before.before, sized b, flagged f, named g, body-read c.before ∙ not-true r.result c.if5.true)
+    rw (long-enough b.before.before, sized b, flagged f, named g, body_read c.before ∙ not-true r.result c.if5.true)
 
 payloads-right-requires : tie.Need-payloads-right-requires
 payloads-right-requires c κs =
@@ -92,7 +92,7 @@ up-to-15 c =
     let g = d.before.before.before in
     let f = g.before.before in
     let b = f.before.before.before in
-    rw (long-enough b.before.before, sized b, flagged f, named g, bodied d, payloads-read c)
+    rw (long-enough b.before.before, sized b, flagged f, named g, bodied d, payloads_read c)
 
 returns-6 : tie.Need-returns-6
 returns-6 c = rw (up-to-15 c.before, not-true c.before.payloads-right.result c.if6.true)

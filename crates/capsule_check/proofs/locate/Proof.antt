@@ -1,7 +1,7 @@
 -- `locate` meets its contract. Assumes nothing.
 use borrow.Author.Rules.{rules}
 use mathlib.Core.Path.{sym, ◌∙◌}
-use Rattle.capsule_check.proofs.Places.{located-refused}
+use Rattle.capsule_check.proofs.Places.{located_refused}
 use Rattle.capsule_check.proofs.locate.Statement.{statement}
 use Rattle.capsule_check.proofs.locate.Tie as tie
 
@@ -14,7 +14,7 @@ pick-requires c κs = sym c.before.before.check.ensures ∙ c.enum_told.given.1
 returns : tie.Need-returns
 returns c =
     let a = c.before.before.before.before.before.args in
-    sym (located-refused a.s.now a.k c.before.checked.given.0.0 (sym c.before.before.before.check.ensures ∙ c.before.checked.given.1))
+    sym (located_refused a.s.now a.k c.before.checked.given.0.0 (sym c.before.before.before.check.ensures ∙ c.before.checked.given.1))
 
 pub locate-spec : {M : Type 1} → statement M
 locate-spec =

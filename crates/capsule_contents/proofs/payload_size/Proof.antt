@@ -2,20 +2,20 @@
 use mathlib.Core.Path.{◌≡◌, refl, sym, ◌∙◌}
 use native.Mathlib.Omega.{arith}
 use borrow.Author.Rules.{rules}
-use Rattle.capsule_payloads.proofs.Payload.{header-ends}
-use Rattle.capsule_contents.specs.Sizes.{payloadSize}
-use Rattle.capsule_contents.proofs.Caps.{cap-least, cap-left}
+use Rattle.capsule_payloads.proofs.Payload.{header_ends}
+use Rattle.capsule_contents.specs.Sizes.{payload_size}
+use Rattle.capsule_contents.proofs.Caps.{cap_least, cap_left}
 use Rattle.capsule_contents.proofs.payload_size.Statement.{statement}
 use Rattle.capsule_contents.proofs.payload_size.Tie as tie
 
 add-capped-requires : tie.Need-add-capped-requires
-add-capped-requires c κs = omega (arith, c.header-length.ensures, (header-ends c.before.read32.result).1)
+add-capped-requires c κs = omega (arith, c.header-length.ensures, (header_ends c.before.read32.result).1)
 
 add-capped-requires-2 : tie.Need-add-capped-requires-2
-add-capped-requires-2 c κs = rw c.add-capped.ensures (cap-least _)
+add-capped-requires-2 c κs = rw c.add-capped.ensures (cap_least _)
 
 returns : tie.Need-returns
-unfolding payloadSize
+unfolding payload_size
 returns c =
     let a = c.before in
     let h = a.before in
@@ -30,7 +30,7 @@ returns c =
       code.read642.ensures,
       image.read64.ensures,
     )
-    (cap-left _ _)
+    (cap_left _ _)
 
 pub payload-size-spec : {M : Type 1} → statement M
 payload-size-spec =

@@ -8,11 +8,11 @@ use lib.ListN.{length}
 use Rattle.fields.specs.Number.{le}
 use Rattle.capsule_header.specs.Header.{body}
 use Rattle.capsule_body.specs.Body.{drivers, payloads}
-use Rattle.capsule_body.proofs.Body.{list-fits}
+use Rattle.capsule_body.proofs.Body.{list_fits}
 use Rattle.capsule_check.specs.Verdict.{verdict}
 use Rattle.refusal_order.specs.declared.Verdict.TheVariants.{Passed}
 use Rattle.capsule_check.proofs.PassedCheck.{faultless, Sound}
-use Rattle.capsule_counts.specs.Count.{driverCount, payloadCount}
+use Rattle.capsule_counts.specs.Count.{driver_count, payload_count}
 use Rattle.capsule_counts.proofs.counts_of.Statement.{statement}
 use Rattle.capsule_counts.proofs.counts_of.Tie as tie
 
@@ -24,10 +24,10 @@ sound c = faultless c.before.before.before.before.args.s.now (passed c)
 
 room : (c : tie.After-body-of) → 8 ≤ length c.body_of.result.now
 room c =
-    rw c.body_of.ensures (omega (arith, list-fits (body c.before.before.before.before.before.args.s.now) (sound c.before).offsets))
+    rw c.body_of.ensures (omega (arith, list_fits (body c.before.before.before.before.before.args.s.now) (sound c.before).offsets))
 
 returns : tie.Need-returns
-unfolding driverCount payloadCount drivers payloads
+unfolding driver_count payload_count drivers payloads
 returns c =
     let b = c.before.before in
     let e = b.body_of.ensures in
@@ -35,7 +35,7 @@ returns c =
     (c.before.read16.ensures ∙ ap (λ (l : List ℕ). le 2 l 4) e, c.read162.ensures ∙ ap (λ (l : List ℕ). le 2 l 6) e, refl)
 
 returns-2 : tie.Need-returns-2
-unfolding driverCount payloadCount
+unfolding driver_count payload_count
 returns-2 c = rw (sym c.before.before.before.check.ensures ∙ c.before.checked.given.1) (refl, refl, refl)
 
 pub counts-of-spec : {M : Type 1} → statement M

@@ -1,7 +1,7 @@
 -- `put_front` meets its contract: the GUID, four words, and the two counts behind them. Assumes nothing.
 use borrow.Author.Rules.{rules}
 use Rattle.fields.specs.Guid.{guid}
-use Rattle.capsule_packed_items.proofs.Puts.{front-put}
+use Rattle.capsule_packed_items.proofs.Puts.{front_put}
 use Rattle.capsule_packed_items.proofs.put_front.Statement.{statement}
 use Rattle.capsule_packed_items.proofs.put_front.Tie as tie
 
@@ -14,7 +14,7 @@ returns c =
     let first = words.before.before.before.before.before in
     let s = first.before.before.before.before in
     let a = s.args in
-    front-put a.out.now a.flags a.size a.drivers a.payloads s.requires first.write-guid.ensures
+    front_put a.out.now a.flags a.size a.drivers a.payloads s.requires first.write-guid.ensures
     words.write-words.ensures drivers.write16.ensures payloads.write162.ensures
 
 pub put-front-spec : {M : Type 1} → statement M

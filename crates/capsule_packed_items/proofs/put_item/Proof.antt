@@ -2,8 +2,8 @@
 use native.Mathlib.Omega.{arith}
 use borrow.Author.Rules.{rules}
 use Rattle.capsule_contents.specs.Lent.{Lent, lent}
-use Rattle.capsule_packed_items.proofs.Items.{driver-bytes, driver-size, driver-inside}
-use Rattle.capsule_packed_items.proofs.Items.{payload-bytes, payload-size, payload-inside}
+use Rattle.capsule_packed_items.proofs.Items.{driver_bytes, driver_size, driver_inside_lem}
+use Rattle.capsule_packed_items.proofs.Items.{payload_bytes_lem, payload_size_lem, payload_inside_lem}
 use Rattle.capsule_packed_items.proofs.put_item.Statement.{statement}
 use Rattle.capsule_packed_items.proofs.put_item.Tie as tie
 
@@ -23,9 +23,9 @@ write-part-requires c κs =
     let k = t.before in
     let s = start k in
     let i = s.args.k in
-    let size = driver-size (given k) i t.if1.true in (
+    let size = driver_size (given k) i t.if1.true in (
       omega (arith, size, c.read642.ensures, s.pre.fits),
-      omega (arith, r.read64.ensures, c.read642.ensures, driver-inside (given k) i t.if1.true s.pre.parts),
+      omega (arith, r.read64.ensures, c.read642.ensures, driver_inside_lem (given k) i t.if1.true s.pre.parts),
     )
 
 returns : tie.Need-returns
@@ -35,7 +35,7 @@ returns c =
     let r = r2.before in
     let t = r.before.before in
     let k = t.before in
-    rw (driver-bytes (given k) (start k).args.k t.if1.true)
+    rw (driver_bytes (given k) (start k).args.k t.if1.true)
     (rw (r.read64.ensures, r2.read642.ensures) at w.write-part.ensures)
 
 put-payload-requires : tie.Need-put-payload-requires
@@ -45,9 +45,9 @@ put-payload-requires c κs =
     let s = start k in
     let i = s.args.k in
     let x = given k in
-    let size = payload-size x i e.if1.false in (
+    let size = payload_size_lem x i e.if1.false in (
       omega (arith, e.if1.false, s.pre.named),
-      payload-inside x i e.if1.false s.pre.parts s.pre.named,
+      payload_inside_lem x i e.if1.false s.pre.parts s.pre.named,
       omega (arith, size, s.pre.small),
       omega (arith, size, s.pre.fits),
     )
@@ -57,7 +57,7 @@ returns-2 c =
     let p = c.before.before in
     let e = p.before.before in
     let k = e.before in
-    rw (payload-bytes (given k) (start k).args.k e.if1.false) p.put_payload.ensures
+    rw (payload_bytes_lem (given k) (start k).args.k e.if1.false) p.put_payload.ensures
 
 pub put-item-spec : {M : Type 1} → statement M
 put-item-spec =

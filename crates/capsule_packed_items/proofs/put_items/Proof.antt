@@ -8,13 +8,13 @@ use lib.ListN.{length}
 use borrow.Author.Rules.{rules}
 use Rattle.fields.specs.Number.{put}
 use Rattle.fields.specs.Joined.{joined}
-use Rattle.capsule_contents.specs.Contents.{itemBytes}
-use Rattle.capsule_contents.specs.Lent.{Lent, lent, contentsOf}
-use Rattle.capsule_contents.specs.Sizes.{itemSize, sum}
-use Rattle.capsule_contents.proofs.Caps.{sum_more, sum-each}
-use Rattle.capsule_packed_items.proofs.Puts.{joined-none, joined-next, put-kept}
+use Rattle.capsule_contents.specs.Contents.{item_bytes}
+use Rattle.capsule_contents.specs.Lent.{Lent, lent, contents_of}
+use Rattle.capsule_contents.specs.Sizes.{item_size, sum}
+use Rattle.capsule_contents.proofs.Caps.{sum_more, sum_each}
+use Rattle.capsule_packed_items.proofs.Puts.{joined_none, joined_next, put_kept}
 use Rattle.capsule_packed_items.proofs.Offsets.{uncapped}
-use Rattle.capsule_packed_items.proofs.Packing.{sizeIn, whole-size, sum_low, item-long, item-small, item-fits, items-long, items-fit}
+use Rattle.capsule_packed_items.proofs.Packing.{size_in, whole_size, sum_low, item_long, item_small, item_fits, items_long, items_fit}
 use Rattle.capsule_packed_items.proofs.put_items.Statement.{statement}
 use Rattle.capsule_packed_items.proofs.put_items.Tie as tie
 
@@ -22,8 +22,8 @@ abbrev invariant-loop : tie.invariant-loop
 invariant-loop drivers driver-table images codes payload-table items out₀ at₀ k₀ out at k =
     (k ≤ items)
     × (length out ≡ length out₀)
-    × (at ≡ 36 + 8 * items + sum k (itemSize driver-table payload-table))
-    × (out ≡ put out₀ (36 + 8 * items) (joined k (itemBytes (contentsOf (lent 0 drivers driver-table images codes payload-table)))))
+    × (at ≡ 36 + 8 * items + sum k (item_size driver-table payload-table))
+    × (out ≡ put out₀ (36 + 8 * items) (joined k (item_bytes (contents_of (lent 0 drivers driver-table images codes payload-table)))))
 
 abbrev decreases-loop : tie.decreases-loop
 decreases-loop drivers driver-table images codes payload-table items out₀ at₀ k₀ out at k = items - k
@@ -49,7 +49,7 @@ unfolding sum
 loop-holds c =
     let s = c.before.before.before.before.before.before in
     let a = s.args in
-    (omega arith, refl, omega arith, joined-none a.out.now (36 + 8 * a.items) (itemBytes (contentsOf (given s))))
+    (omega arith, refl, omega arith, joined_none a.out.now (36 + 8 * a.items) (item_bytes (contents_of (given s))))
 
 put-item-requires : tie.Need-put-item-requires invariant-loop decreases-loop
 put-item-requires c κs =
@@ -63,20 +63,20 @@ put-item-requires c κs =
     record {
       named = omega (arith, s.pre.0, t.loop-test.true);
       parts = s.pre.1.parts;
-      small = item-small x n room s.pre.0 s.pre.1 k t.loop-test.true;
-      fits = omega (arith, l.loop.invariant.1, l.loop.invariant.2, item-fits x n room s.pre.0 s.pre.1 k t.loop-test.true);
+      small = item_small x n room s.pre.0 s.pre.1 k t.loop-test.true;
+      fits = omega (arith, l.loop.invariant.1, l.loop.invariant.2, item_fits x n room s.pre.0 s.pre.1 k t.loop-test.true);
     }
 
 -- what is added is the item's size
 added : (c : tie.After-item-size invariant-loop decreases-loop)
     → let t = c.before.before.before.before.before in
-    c.item-size.result ≡ sizeIn (given (start t)) t.before.loop.k
+    c.item-size.result ≡ size_in (given (start t)) t.before.loop.k
 added c =
     let t = c.before.before.before.before.before in
     let s = start t in
     let x = given s in
     let n = s.args.items in
-    uncapped n t.before.loop.k _ (sizeIn x) t.loop-test.true (sum_low x n (length s.args.out.now) s.pre.0 s.pre.1)
+    uncapped n t.before.loop.k _ (size_in x) t.loop-test.true (sum_low x n (length s.args.out.now) s.pre.0 s.pre.1)
     c.item-size.ensures
 
 add-at-2 : tie.Need-overflow-add-at-2 invariant-loop decreases-loop
@@ -92,8 +92,8 @@ add-at-2 c =
       added c,
       l.loop.invariant.2,
       s.pre.1.small,
-      whole-size x n room s.pre.0 s.pre.1,
-      sum-each n l.loop.k (sizeIn x) t.loop-test.true,
+      whole_size x n room s.pre.0 s.pre.1,
+      sum_each n l.loop.k (size_in x) t.loop-test.true,
     )
 
 loop-again : tie.Need-loop-preserved invariant-loop decreases-loop
@@ -107,15 +107,15 @@ loop-again c =
     let out = s.args.out.now in
     let room = length out in
     let k = l.loop.k in
-    let g = itemBytes (contentsOf x) in
+    let g = item_bytes (contents_of x) in
     let low = t.loop-test.true in
-    let fits : 36 + 8 * n + sum k (sizeIn x) + length (g k) ≤ room =
-    omega (arith, item-long x n room s.pre.0 s.pre.1 k low, item-fits x n room s.pre.0 s.pre.1 k low) in
-    let e = joined-next out (36 + 8 * n) g k (sum k (sizeIn x)) (items-long x n room s.pre.0 s.pre.1 k l.loop.invariant.0) fits
+    let fits : 36 + 8 * n + sum k (size_in x) + length (g k) ≤ room =
+    omega (arith, item_long x n room s.pre.0 s.pre.1 k low, item_fits x n room s.pre.0 s.pre.1 k low) in
+    let e = joined_next out (36 + 8 * n) g k (sum k (size_in x)) (items_long x n room s.pre.0 s.pre.1 k l.loop.invariant.0) fits
     l.loop.invariant.3 (rw l.loop.invariant.2 at p.put_item.ensures) in (
       omega arith,
-      put-kept out (36 + 8 * n) (joined (k + 1) g) (items-fit x n room s.pre.0 s.pre.1 (k + 1) (omega arith)) e,
-      rw (add-one k, sum_more k (sizeIn x)) (omega (arith, added c, l.loop.invariant.2)),
+      put_kept out (36 + 8 * n) (joined (k + 1) g) (items_fit x n room s.pre.0 s.pre.1 (k + 1) (omega arith)) e,
+      rw (add-one k, sum_more k (size_in x)) (omega (arith, added c, l.loop.invariant.2)),
       e,
     )
 

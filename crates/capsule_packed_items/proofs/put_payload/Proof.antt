@@ -2,9 +2,9 @@
 use mathlib.Core.Path.{◌≡◌, ◌∙◌, ap}
 use native.Mathlib.Omega.{arith}
 use borrow.Author.Rules.{rules}
-use Rattle.capsule_payloads.specs.Payload.{headerLength}
-use Rattle.capsule_contents.specs.Lent.{versionGiven}
-use Rattle.capsule_packed_items.proofs.Payloads.{size_is, image-inside, code_inside, payload-put}
+use Rattle.capsule_payloads.specs.Payload.{header_length}
+use Rattle.capsule_contents.specs.Lent.{version_given}
+use Rattle.capsule_packed_items.proofs.Payloads.{size_is, image_inside, code_inside, payload_put}
 use Rattle.capsule_packed_items.proofs.put_payload.Statement.{statement}
 use Rattle.capsule_packed_items.proofs.put_payload.Tie as tie
 
@@ -13,8 +13,8 @@ abbrev start : tie.After-header-length → tie.Start
 start c = c.before.before.before.before.before.before.before.before.before.before.before.before
 
 long : (c : tie.After-header-length)
-    → let a = (start c).args in c.header-length.result ≡ headerLength (versionGiven a.table.now a.j)
-long c = c.header-length.ensures ∙ ap headerLength c.before.read32.ensures
+    → let a = (start c).args in c.header-length.result ≡ header_length (version_given a.table.now a.j)
+long c = c.header-length.ensures ∙ ap header_length c.before.read32.ensures
 
 add-behind : tie.Need-overflow-add-behind
 add-behind c = let s = start c in omega (arith, long c, s.pre.3, size_is s.args.table.now s.args.j)
@@ -27,7 +27,7 @@ write-part-requires c κs =
     let r = h.before.before.before.before.before.before.before in
     let t = a.table.now in (
       omega (arith, long h, r.read64.ensures, s.pre.3, size_is t a.j),
-      omega (arith, c.read643.ensures, r.read64.ensures, image-inside a.images.now a.codes.now t a.j s.pre.1),
+      omega (arith, c.read643.ensures, r.read64.ensures, image_inside a.images.now a.codes.now t a.j s.pre.1),
     )
 
 add-write-part : tie.Need-overflow-add-write-part
@@ -58,7 +58,7 @@ returns c =
     let r2 = header.before.before in
     let s = start h in
     let a = s.args in
-    payload-put a.images.now a.codes.now a.table.now a.j s.pre.1 a.out.now a.at s.pre.0 s.pre.3
+    payload_put a.images.now a.codes.now a.table.now a.j s.pre.1 a.out.now a.at s.pre.0 s.pre.3
     header.put-payload-header.ensures
     (rw (image.before.read643.ensures, r2.before.read64.ensures, long h) at image.write-part.ensures)
     (rw (code.before.read644.ensures, r2.read642.ensures, r2.before.read64.ensures, long h) at code.write-part2.ensures)

@@ -7,9 +7,9 @@ use lib.ListN.{get_or}
 use borrow.Author.Rules.{rules}
 use borrow.Author.Tests.{eq-eqb, ne_eqb}
 use Rattle.fields.specs.Number.{put}
-use Rattle.capsule_contents.specs.Lent.{payloadGiven, versionGiven}
-use Rattle.capsule_packed_items.proofs.Puts.{head_of, head-put, head-whole, head_more}
-use Rattle.capsule_packed_items.proofs.Payloads.{size-least, size-more, guid-long, image-long, code-long}
+use Rattle.capsule_contents.specs.Lent.{payload_given, version_given}
+use Rattle.capsule_packed_items.proofs.Puts.{head_of, head_put, head_whole, head_more}
+use Rattle.capsule_packed_items.proofs.Payloads.{size_least, size_more, guid_long, image_long, code_long}
 use Rattle.capsule_packed_items.proofs.put_payload_header.Statement.{statement}
 use Rattle.capsule_packed_items.proofs.put_payload_header.Tie as tie
 
@@ -25,29 +25,29 @@ image-low : (c : tie.After-read642) → c.before.read64.result < 2 ^ 32
 image-low c =
     let r = c.before in
     let s = r.before.before.before.before.before.before in
-    omega (arith, r.read64.ensures, s.requires.2, size-least s.args.table.now s.args.j)
+    omega (arith, r.read64.ensures, s.requires.2, size_least s.args.table.now s.args.j)
 
 code-low : (c : tie.After-read642) → c.read642.result < 2 ^ 32
 code-low c =
     let s = c.before.before.before.before.before.before.before in
-    omega (arith, c.read642.ensures, s.requires.2, size-least s.args.table.now s.args.j)
+    omega (arith, c.read642.ensures, s.requires.2, size_least s.args.table.now s.args.j)
 
 write32-requires : tie.Need-write32-requires
 write32-requires c κs =
     let s = c.before.before.before.before.before.before.before.before.before in
-    omega (arith, s.requires.3, size-least s.args.table.now s.args.j)
+    omega (arith, s.requires.3, size_least s.args.table.now s.args.j)
 
 write-guid-requires : tie.Need-write-guid-requires
 write-guid-requires c κs =
     let w = c.before.before.before in
     let s = w.before.before.before.before.before.before.before.before.before.before in
-    (omega (arith, s.requires.3, size-least s.args.table.now s.args.j), omega (arith, s.requires.0))
+    (omega (arith, s.requires.3, size_least s.args.table.now s.args.j), omega (arith, s.requires.0))
 
 write-words-requires : tie.Need-write-words-requires
 write-words-requires c κs =
     let w = c.before.before.before.before in
     let s = w.before.before.before.before.before.before.before.before.before.before.before.before.before.before in
-    omega (arith, s.requires.3, size-least s.args.table.now s.args.j)
+    omega (arith, s.requires.3, size_least s.args.table.now s.args.j)
 
 -- from the last test back to the index that was read, the version, and the start
 abbrev index : tie.After-slice-known4 → tie.After-shared-slice-known4
@@ -63,7 +63,7 @@ start c = (first c).before.before.before.before.before
 begun : (c : tie.After-slice-known4)
     → let a = (start c).args in
     c.before.before.write-words.new.0
-    ≡ put a.out.now a.at (head_of (payloadGiven a.images.now a.codes.now a.table.now a.j))
+    ≡ put a.out.now a.at (head_of (payload_given a.images.now a.codes.now a.table.now a.j))
 begun c =
     let words = c.before.before in
     let id = words.before.before.before.before.before in
@@ -73,22 +73,22 @@ begun c =
     let s = start c in
     let a = s.args in
     let t = a.table.now in
-    let p = payloadGiven a.images.now a.codes.now t a.j in
-    let il = image-long a.images.now a.codes.now t a.j s.pre.1 in
-    let cl = code-long a.images.now a.codes.now t a.j s.pre.1 in
-    head-put p (guid-long t a.j s.pre.0) a.out.now a.at (omega (arith, s.pre.3, size-least t a.j))
+    let p = payload_given a.images.now a.codes.now t a.j in
+    let il = image_long a.images.now a.codes.now t a.j s.pre.1 in
+    let cl = code_long a.images.now a.codes.now t a.j s.pre.1 in
+    head_put p (guid_long t a.j s.pre.0) a.out.now a.at (omega (arith, s.pre.3, size_least t a.j))
     (rw (first c).read32.ensures at version.write32.ensures) id.write-guid.ensures
     (rw (il, cl, ← image.read64.ensures, ← code.read642.ensures) words.write-words.ensures)
 
 -- a version that is not 1
-other : (c : tie.Then1) → let a = (start c.before).args in versionGiven a.table.now a.j ≡ 1 → ⊥
+other : (c : tie.Then1) → let a = (start c.before).args in version_given a.table.now a.j ≡ 1 → ⊥
 other c e = c.if1.true ((first c.before).read32.ensures ∙ e)
 
 write64-requires : tie.Need-write64-requires
 write64-requires c κs =
     let t = c.before.before in
     let s = start t.before in
-    omega (arith, s.pre.3, size-more s.args.table.now s.args.j (other t))
+    omega (arith, s.pre.3, size_more s.args.table.now s.args.j (other t))
 
 returns : tie.Need-returns
 returns c =
@@ -99,9 +99,9 @@ returns c =
     let s = start k in
     let a = s.args in
     let table = a.table.now in
-    let p = payloadGiven a.images.now a.codes.now table a.j in
-    head_more p (guid-long table a.j s.pre.0) (index-low (index k)) a.out.now a.at
-    (ne_eqb (versionGiven table a.j) 1 (other t)) (omega (arith, s.pre.3, size-more table a.j (other t))) (begun k)
+    let p = payload_given a.images.now a.codes.now table a.j in
+    head_more p (guid_long table a.j s.pre.0) (index-low (index k)) a.out.now a.at
+    (ne_eqb (version_given table a.j) 1 (other t)) (omega (arith, s.pre.3, size_more table a.j (other t))) (begun k)
     (rw r.read643.ensures at w.write64.ensures)
 
 returns-2 : tie.Need-returns-2
@@ -110,10 +110,10 @@ returns-2 c =
     let s = start k in
     let a = s.args in
     let table = a.table.now in
-    let p = payloadGiven a.images.now a.codes.now table a.j in
-    let one : versionGiven table a.j ≡ 1 = sym (first k).read32.ensures ∙ c.if1.false in
-    head-whole p (guid-long table a.j s.pre.0) (index-low (index k)) a.out.now a.at
-    (eq-eqb (versionGiven table a.j) 1 one) (begun k)
+    let p = payload_given a.images.now a.codes.now table a.j in
+    let one : version_given table a.j ≡ 1 = sym (first k).read32.ensures ∙ c.if1.false in
+    head_whole p (guid_long table a.j s.pre.0) (index-low (index k)) a.out.now a.at
+    (eq-eqb (version_given table a.j) 1 one) (begun k)
 
 pub put-payload-header-spec : {M : Type 1} → statement M
 put-payload-header-spec =

@@ -4,8 +4,8 @@ use native.Mathlib.Omega.{arith}
 use borrow.Author.Rules.{rules}
 use Rattle.refusal_order.specs.Decide.{passed, decide}
 use Rattle.capsule_contents.specs.Lent.{Lent, lent}
-use Rattle.capsule_packing_rules.specs.Rules.{packedReply, capsuleSize, sizeTests}
-use Rattle.capsule_packer.proofs.Steps.{size-refused, size-found, room-refused, packable, all-passed}
+use Rattle.capsule_packing_rules.specs.Rules.{packed_reply, capsule_size, size_tests}
+use Rattle.capsule_packer.proofs.Steps.{size_refused, size_found, room_refused, packable, all_passed}
 use Rattle.capsule_packer.proofs.pack.Statement.{statement}
 use Rattle.capsule_packer.proofs.pack.Tie as tie
 
@@ -19,16 +19,16 @@ given c =
 
 -- where a size was answered
 told : (c : tie.After-sized2)
-    → let x = given c.before.before in (passed ≡ decide (sizeTests x)) × (c.sized2.given.0.0 ≡ capsuleSize x)
+    → let x = given c.before.before in (passed ≡ decide (size_tests x)) × (c.sized2.given.0.0 ≡ capsule_size x)
 told c =
     let p = c.before.before in
-    size-found (given p) c.sized2.given.0.0 (ap packedReply (sym c.sized2.given.1) ∙ p.packed-size.ensures)
+    size_found (given p) c.sized2.given.0.0 (ap packed_reply (sym c.sized2.given.1) ∙ p.packed-size.ensures)
 
 returns : tie.Need-returns
 returns c =
     let v = c.before.before in
     let p = v.before.before in
-    room-refused (given p) (told v).0 (start p).args.out.now (omega (arith, (told v).1, c.if1.true))
+    room_refused (given p) (told v).0 (start p).args.out.now (omega (arith, (told v).1, c.if1.true))
 
 put-capsule-requires : tie.Need-put-capsule-requires
 put-capsule-requires c κs =
@@ -41,8 +41,8 @@ returns-2 : tie.Need-returns-2
 returns-2 c =
     let v = c.before in
     let p = v.before.before in
-    size-refused (given p) (start p).args.out.now v.sized.given.0.0
-    (ap packedReply (sym v.sized.given.1) ∙ p.packed-size.ensures)
+    size_refused (given p) (start p).args.out.now v.sized.given.0.0
+    (ap packed_reply (sym v.sized.given.1) ∙ p.packed-size.ensures)
 
 returns-3 : tie.Need-returns-3
 returns-3 c =
@@ -50,7 +50,7 @@ returns-3 c =
     let e = w.before.before in
     let v = e.before.before in
     let p = v.before.before in
-    all-passed (given p) (told v).0 (start p).args.out.now (omega (arith, (told v).1, e.if1.false)) _ _ (told v).1
+    all_passed (given p) (told v).0 (start p).args.out.now (omega (arith, (told v).1, e.if1.false)) _ _ (told v).1
     w.put-capsule.ensures
 
 pub pack-spec : {M : Type 1} → statement M

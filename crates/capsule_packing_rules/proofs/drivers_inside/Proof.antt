@@ -3,14 +3,14 @@ use mathlib.Core.Path.{sym, ◌∙◌}
 use Prim.Native.Nat.{◌-◌}
 use borrow.Author.Tests.{not-true, not-false}
 use borrow.Author.Rules.{rules}
-use Rattle.capsule_contents.specs.Lent.{driversIn}
-use Rattle.capsule_packing_rules.specs.Rules.{driverInside}
-use Rattle.capsule_packing_rules.proofs.Loops.{Passed, passed_none, passed-more, passed-stop, passed-all}
+use Rattle.capsule_contents.specs.Lent.{drivers_in}
+use Rattle.capsule_packing_rules.specs.Rules.{driver_inside}
+use Rattle.capsule_packing_rules.proofs.Loops.{Passed, passed_none, passed_more, passed_stop, passed_all}
 use Rattle.capsule_packing_rules.proofs.drivers_inside.Statement.{statement}
 use Rattle.capsule_packing_rules.proofs.drivers_inside.Tie as tie
 
 abbrev invariant-loop : tie.invariant-loop
-invariant-loop drivers table count k₀ k = Passed (driverInside drivers table) (driversIn table) k
+invariant-loop drivers table count k₀ k = Passed (driver_inside drivers table) (drivers_in table) k
 
 abbrev decreases-loop : tie.decreases-loop
 decreases-loop drivers table count k₀ k = count - k
@@ -22,16 +22,16 @@ returns : tie.Need-returns invariant-loop decreases-loop
 returns c =
     let p = c.before in
     let t = p.before in
-    passed-stop t.before.loop.invariant t.loop-test.true (sym p.part-inside.ensures ∙ not-true _ c.if1.true)
+    passed_stop t.before.loop.invariant t.loop-test.true (sym p.part-inside.ensures ∙ not-true _ c.if1.true)
 
 loop-again : tie.Need-loop-preserved invariant-loop decreases-loop
 loop-again c =
     let p = c.before in
     let t = p.before in
-    passed-more t.before.loop.invariant t.loop-test.true (sym p.part-inside.ensures ∙ not-false _ c.if1.false)
+    passed_more t.before.loop.invariant t.loop-test.true (sym p.part-inside.ensures ∙ not-false _ c.if1.false)
 
 returns-2 : tie.Need-returns-2 invariant-loop decreases-loop
-returns-2 c = passed-all c.before.loop.invariant c.loop-test.false
+returns-2 c = passed_all c.before.loop.invariant c.loop-test.false
 
 pub drivers-inside-spec : {M : Type 1} → statement M
 drivers-inside-spec =

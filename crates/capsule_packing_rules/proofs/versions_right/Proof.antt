@@ -3,15 +3,15 @@ use mathlib.Core.Path.{◌≡◌, sym, ap, ◌∙◌}
 use Prim.Native.Nat.{◌-◌}
 use borrow.Author.Tests.{not-true, not-false}
 use borrow.Author.Rules.{rules}
-use Rattle.capsule_payloads.specs.Payload.{versionRight}
-use Rattle.capsule_contents.specs.Lent.{payloadsIn}
-use Rattle.capsule_packing_rules.specs.Rules.{versionAtRight}
-use Rattle.capsule_packing_rules.proofs.Loops.{Passed, passed_none, passed-more, passed-stop, passed-all}
+use Rattle.capsule_payloads.specs.Payload.{version_right}
+use Rattle.capsule_contents.specs.Lent.{payloads_in}
+use Rattle.capsule_packing_rules.specs.Rules.{version_at_right}
+use Rattle.capsule_packing_rules.proofs.Loops.{Passed, passed_none, passed_more, passed_stop, passed_all}
 use Rattle.capsule_packing_rules.proofs.versions_right.Statement.{statement}
 use Rattle.capsule_packing_rules.proofs.versions_right.Tie as tie
 
 abbrev invariant-loop : tie.invariant-loop
-invariant-loop table count j₀ j = Passed (versionAtRight table) (payloadsIn table) j
+invariant-loop table count j₀ j = Passed (version_at_right table) (payloads_in table) j
 
 abbrev decreases-loop : tie.decreases-loop
 decreases-loop table count j₀ j = count - j
@@ -22,23 +22,23 @@ loop-holds c = passed_none
 -- what was answered of payload j
 tested : (c : tie.After-version-right invariant-loop decreases-loop)
     → let l = c.before.before.before in
-    versionAtRight l.before.before.args.table.now l.loop.j ≡ c.version-right.result
-tested c = sym (c.version-right.ensures ∙ ap versionRight c.before.read32.ensures)
+    version_at_right l.before.before.args.table.now l.loop.j ≡ c.version-right.result
+tested c = sym (c.version-right.ensures ∙ ap version_right c.before.read32.ensures)
 
 returns : tie.Need-returns invariant-loop decreases-loop
 returns c =
     let v = c.before in
     let t = v.before.before in
-    passed-stop t.before.loop.invariant t.loop-test.true (tested v ∙ not-true _ c.if1.true)
+    passed_stop t.before.loop.invariant t.loop-test.true (tested v ∙ not-true _ c.if1.true)
 
 loop-again : tie.Need-loop-preserved invariant-loop decreases-loop
 loop-again c =
     let v = c.before in
     let t = v.before.before in
-    passed-more t.before.loop.invariant t.loop-test.true (tested v ∙ not-false _ c.if1.false)
+    passed_more t.before.loop.invariant t.loop-test.true (tested v ∙ not-false _ c.if1.false)
 
 returns-2 : tie.Need-returns-2 invariant-loop decreases-loop
-returns-2 c = passed-all c.before.loop.invariant c.loop-test.false
+returns-2 c = passed_all c.before.loop.invariant c.loop-test.false
 
 pub versions-right-spec : {M : Type 1} → statement M
 versions-right-spec =

@@ -1,13 +1,13 @@
 -- `image` meets its contract: the image lies in the capsule. Assumes nothing.
 use borrow.Author.Rules.{rules}
-use Rattle.capsule_parts.proofs.Parts.{parts-lie}
+use Rattle.capsule_parts.proofs.Parts.{parts_lie}
 use Rattle.capsule_parts.proofs.image.Statement.{statement}
 use Rattle.capsule_parts.proofs.image.Tie as tie
 
 part-of-requires : tie.Need-part-of-requires
 part-of-requires c κs =
     let a = c.before.before.args in
-    let l = rw (← c.places_of.ensures.0) at (parts-lie a.s.now a.k).image in
+    let l = rw (← c.places_of.ensures.0) at (parts_lie a.s.now a.k).image in
     (l.ordered, l.inside)
 
 returns : tie.Need-returns

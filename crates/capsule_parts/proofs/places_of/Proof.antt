@@ -5,10 +5,10 @@ use mathlib.Core.List.{List}
 use Prim.Native.Nat.{ℕ}
 use native.Mathlib.Omega.{arith}
 use Rattle.capsule_check.specs.Item.{located}
-use Rattle.capsule_check.specs.Verdict.{itemVerdict}
+use Rattle.capsule_check.specs.Verdict.{item_verdict}
 use Rattle.capsule_check.specs.declared.Item.{Item}
 use Rattle.capsule_check.specs.declared.Item.TheVariants.{Payload}
-use Rattle.capsule_check.proofs.Places.{told, told-judged, Holds, holds}
+use Rattle.capsule_check.proofs.Places.{told, told_judged, Holds, holds}
 use Rattle.fields.proofs.Part.{part_length}
 use Rattle.capsule_parts.proofs.places_of.Statement.{statement}
 use Rattle.capsule_parts.proofs.places_of.Tie as tie
@@ -45,8 +45,8 @@ payload-places-requires c κs =
     (h.1, omega (arith, part_length s.args.s.now g.0 g.1.0 h.0.within, h.0.some, h.0.within, s.well-formed))
 
 -- the verdict that a found item carries
-judged : (s : List ℕ) (k : ℕ) (i : Item) → i ≡ located s k → told i ≡ itemVerdict s k
-judged s k i e = ap told e ∙ told-judged s k
+judged : (s : List ℕ) (k : ℕ) (i : Item) → i ≡ located s k → told i ≡ item_verdict s k
+judged s k i e = ap told e ∙ told_judged s k
 
 returns : tie.Need-returns
 returns c =

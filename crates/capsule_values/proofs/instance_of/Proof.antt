@@ -3,16 +3,16 @@ use mathlib.Core.Path.{sym, ◌∙◌}
 use native.Mathlib.Omega.{arith}
 use borrow.Author.Tests.{eq-eqb, ne_eqb}
 use Rattle.fields.specs.Number.{le}
-use Rattle.capsule_payloads.specs.Payload.{version, hardwareInstance}
-use Rattle.capsule_payloads.proofs.Payload.{first-header, second-header}
+use Rattle.capsule_payloads.specs.Payload.{version, hardware_instance}
+use Rattle.capsule_payloads.proofs.Payload.{first_header, second_header}
 use Rattle.capsule_values.proofs.instance_of.Statement.{statement}
 use Rattle.capsule_values.proofs.instance_of.Tie as tie
 
 read32-requires : tie.Need-read32-requires
-read32-requires c κs = let s = c.before in omega (arith, first-header s.args.p.now s.requires)
+read32-requires c κs = let s = c.before in omega (arith, first_header s.args.p.now s.requires)
 
 returns : tie.Need-returns
-unfolding version hardwareInstance
+unfolding version hardware_instance
 returns c =
     let p = c.before.before.before.args.p.now in
     simp (eq-eqb (le 4 p 0) 1 (sym c.before.read32.ensures ∙ c.if1.true))
@@ -21,10 +21,10 @@ read64-requires : tie.Need-read64-requires
 unfolding version
 read64-requires c κs =
     let s = c.before.before.before in
-    omega (arith, second-header s.args.p.now s.requires (λ e. c.if1.false (c.before.read32.ensures ∙ e)))
+    omega (arith, second_header s.args.p.now s.requires (λ e. c.if1.false (c.before.read32.ensures ∙ e)))
 
 returns-2 : tie.Need-returns-2
-unfolding version hardwareInstance
+unfolding version hardware_instance
 returns-2 c =
     let d = c.before in
     let p = d.before.before.before.args.p.now in

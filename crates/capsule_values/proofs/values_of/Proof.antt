@@ -3,11 +3,11 @@
 use borrow.Author.Rules.{rules}
 use mathlib.Core.Path.{◌≡◌, sym, ap, ◌∙◌}
 use native.Mathlib.Omega.{arith}
-use Rattle.capsule_check.specs.Verdict.{itemVerdict}
+use Rattle.capsule_check.specs.Verdict.{item_verdict}
 use Rattle.capsule_check.specs.Item.{located}
 use Rattle.capsule_check.specs.declared.Item.{Item}
 use Rattle.capsule_check.specs.declared.Item.TheVariants.{Payload}
-use Rattle.capsule_check.proofs.Places.{told, told-judged, Holds, holds}
+use Rattle.capsule_check.proofs.Places.{told, told_judged, Holds, holds}
 use Rattle.capsule_values.proofs.values_of.Statement.{statement}
 use Rattle.capsule_values.proofs.values_of.Tie as tie
 
@@ -16,8 +16,8 @@ module _ (c : tie.After-locate) (i : Item) (is : c.locate.result ≡ i) where
   found : located c.before.before.args.s.now c.before.before.args.k ≡ i
   found = sym c.locate.ensures ∙ is
 
-  verdict : itemVerdict c.before.before.args.s.now c.before.before.args.k ≡ told i
-  verdict = let a = c.before.before.args in sym (told-judged a.s.now a.k) ∙ ap told found
+  verdict : item_verdict c.before.before.args.s.now c.before.before.args.k ≡ told i
+  verdict = let a = c.before.before.args in sym (told_judged a.s.now a.k) ∙ ap told found
 
   held : Holds c.before.before.args.s.now i
   held = let a = c.before.before.args in rw found at (holds a.s.now a.k)

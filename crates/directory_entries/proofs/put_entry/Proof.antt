@@ -5,21 +5,21 @@ use native.Mathlib.Nat.{add-zero}
 use native.Mathlib.Omega.{arith}
 use borrow.Author.Rules.{rules}
 use lib.ListN.{length}
-use Rattle.record_layout.specs.Layout.{bankCount, imageCount, typeGuid}
+use Rattle.record_layout.specs.Layout.{bank_count, image_count, type_guid}
 use Rattle.record_layout.specs.Sized.{Sized}
-use Rattle.record_layout.proofs.Sizes.{guid-in, step-on}
-use Rattle.record_layout.proofs.Sound.{sound-sized, sound-long}
-use Rattle.directory_layout.proofs.Written.{entry-put}
-use Rattle.directory_entries.specs.Installed.{installedEntry}
-use Rattle.directory_entries.proofs.Guids.{guid-long}
+use Rattle.record_layout.proofs.Sizes.{guid_in, step_on}
+use Rattle.record_layout.proofs.Sound.{sound_sized, sound_long}
+use Rattle.directory_layout.proofs.Written.{entry_put}
+use Rattle.directory_entries.specs.Installed.{installed_entry}
+use Rattle.directory_entries.proofs.Guids.{guid_long}
 use Rattle.directory_entries.proofs.put_entry.Statement.{statement}
 use Rattle.directory_entries.proofs.put_entry.Tie as tie
 
-sized : (s : tie.Start) → Sized s.args.r.now (bankCount s.args.r.now) (imageCount s.args.r.now)
-sized s = sound-sized s.args.r.now s.requires.0
+sized : (s : tie.Start) → Sized s.args.r.now (bank_count s.args.r.now) (image_count s.args.r.now)
+sized s = sound_sized s.args.r.now s.requires.0
 
 bank-count-requires : tie.Need-bank-count-requires
-bank-count-requires c κs = let s = c.before.before.before in sound-long s.args.r.now s.requires.0
+bank-count-requires c κs = let s = c.before.before.before in sound_long s.args.r.now s.requires.0
 
 accepted-word-requires : tie.Need-accepted-word-requires
 accepted-word-requires c κs =
@@ -30,7 +30,7 @@ entry-at-requires : tie.Need-entry-at-requires
 entry-at-requires c κs =
     let b = c.before.before.before.before.before.before in
     let z = sized b.before.before.before.before in
-    (omega (arith, z.banks-high, b.bank-count.ensures), omega (arith, z.images-high))
+    (omega (arith, z.banks_high, b.bank-count.ensures), omega (arith, z.images_high))
 
 write-guid-requires : tie.Need-write-guid-requires
 write-guid-requires c κs =
@@ -39,7 +39,7 @@ write-guid-requires c κs =
     let a = s.args in
     let r = a.r.now in (
       omega (arith, s.requires.4),
-      rw (c.entry_at.ensures.0, b.bank-count.ensures) (guid-in r (bankCount r) (imageCount r) a.i (sized s) s.requires.1),
+      rw (c.entry_at.ensures.0, b.bank-count.ensures) (guid_in r (bank_count r) (image_count r) a.i (sized s) s.requires.1),
     )
 
 returns : tie.Need-returns
@@ -52,8 +52,8 @@ returns c =
     let s = b.before.before.before.before in
     let a = s.args in
     let r = a.r.now in
-    let long = guid-long r a.i s.requires.0 s.requires.1 in
-    entry-put (installedEntry r a.booted a.words.now a.i) long a.out.now _ (omega (arith, s.requires.4))
+    let long = guid_long r a.i s.requires.0 s.requires.1 in
+    entry_put (installed_entry r a.booted a.words.now a.i) long a.out.now _ (omega (arith, s.requires.4))
     (rw (e.entry_at.ensures.0, b.bank-count.ensures) at g.write-guid.ensures)
     (rw (add-zero, ← f.accepted-word.ensures) w.write-words.ensures)
 

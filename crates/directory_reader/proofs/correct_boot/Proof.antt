@@ -2,8 +2,8 @@
 use mathlib.Core.Path.{sym, ap, ◌∙◌}
 use native.Mathlib.Omega.{arith}
 use borrow.Author.Rules.{rules}
-use Rattle.refusal_order.specs.Decide.{decisionOf}
-use Rattle.directory_reader.specs.Reader.{shownCorrectBoot}
+use Rattle.refusal_order.specs.Decide.{decision_of}
+use Rattle.directory_reader.specs.Reader.{shown_correct_boot}
 use Rattle.directory_reader.proofs.Taken.{taken}
 use Rattle.directory_reader.proofs.correct_boot.Statement.{statement}
 use Rattle.directory_reader.proofs.correct_boot.Tie as tie
@@ -11,16 +11,16 @@ use Rattle.directory_reader.proofs.correct_boot.Tie as tie
 read32-requires : tie.Need-read32-requires
 read32-requires c κs =
     let f = c.before.before in
-    omega (arith, (taken _ (sym f.refusal.ensures ∙ ap decisionOf c.enum_told.given.1)).long)
+    omega (arith, (taken _ (sym f.refusal.ensures ∙ ap decision_of c.enum_told.given.1)).long)
 
 returns : tie.Need-returns
-unfolding shownCorrectBoot
+unfolding shown_correct_boot
 returns c =
     let t = c.before in
     rw (← t.before.before.refusal.ensures, t.enum_told.given.1) c.read32.ensures
 
 returns-2 : tie.Need-returns-2
-unfolding shownCorrectBoot
+unfolding shown_correct_boot
 returns-2 c = rw (← c.before.before.refusal.ensures, c.enum-told2.given.1)
 
 pub correct-boot-spec : {M : Type 1} → statement M

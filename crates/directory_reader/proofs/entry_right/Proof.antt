@@ -2,16 +2,16 @@
 use mathlib.Core.Path.{sym, ◌∙◌}
 use borrow.Author.Tests.{le-leb, lt-leb, not-true, not-false}
 use borrow.Author.Rules.{rules}
-use Rattle.directory_reader.specs.Reader.{entryRight}
+use Rattle.directory_reader.specs.Reader.{entry_right}
 use Rattle.directory_reader.proofs.entry_right.Statement.{statement}
 use Rattle.directory_reader.proofs.entry_right.Tie as tie
 
 returns : tie.Need-returns
-unfolding entryRight
+unfolding entry_right
 returns c = let p = c.before in rw (← p.before.read32.ensures, sym p.permissions-right.ensures ∙ not-true _ c.if1.true)
 
 returns-2 : tie.Need-returns-2
-unfolding entryRight
+unfolding entry_right
 returns-2 c =
     let a = c.before in
     let e = a.before in
@@ -24,7 +24,7 @@ returns-2 c =
     )
 
 returns-3 : tie.Need-returns-3
-unfolding entryRight
+unfolding entry_right
 returns-3 c =
     let f = c.before in
     let a = f.before in

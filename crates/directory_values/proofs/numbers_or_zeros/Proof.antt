@@ -5,9 +5,9 @@ use native.Mathlib.Omega.{arith}
 use lib.ListN.{length}
 use borrow.Author.Tests.{lt-ltb, le-ltb}
 use borrow.Author.Rules.{rules}
-use Rattle.directory_layout.specs.Layout.{entryStart, directoryEntrySize}
+use Rattle.directory_layout.specs.Layout.{entry_start, directory_entry_size}
 use Rattle.directory_reader.proofs.Taken.{taken}
-use Rattle.directory_values.specs.Values.{numbersOrZeros}
+use Rattle.directory_values.specs.Values.{numbers_or_zeros}
 use Rattle.directory_values.proofs.numbers_or_zeros.Statement.{statement}
 use Rattle.directory_values.proofs.numbers_or_zeros.Tie as tie
 
@@ -15,11 +15,11 @@ read32-requires : tie.Need-read32-requires
 read32-requires c κs = let s = c.before in omega (arith, (taken s.args.d.now s.requires).long)
 
 returns : tie.Need-returns
-unfolding numbersOrZeros
+unfolding numbers_or_zeros
 returns c = let t = c.before in rw (← t.before.read32.ensures, le-ltb _ _ t.if1.true) c.zeros.ensures
 
 -- entry k ends in the directory
-ends : (c : tie.Else1) → let a = c.before.before.before.args in entryStart a.k + directoryEntrySize ≤ length a.d.now
+ends : (c : tie.Else1) → let a = c.before.before.before.args in entry_start a.k + directory_entry_size ≤ length a.d.now
 ends c =
     let r = c.before in
     let s = r.before.before in
@@ -41,7 +41,7 @@ read32-requires-6 : tie.Need-read32-requires-6
 read32-requires-6 c κs = omega (arith, ends c.before.before.before.before)
 
 returns-2 : tie.Need-returns-2
-unfolding numbersOrZeros
+unfolding numbers_or_zeros
 returns-2 c =
     let w = c.before in
     let v = w.before in

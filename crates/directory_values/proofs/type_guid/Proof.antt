@@ -1,19 +1,19 @@
 -- `type_guid` meets its contract: what is handed out lies in the directory. Assumes nothing.
 use mathlib.Core.Path.{◌≡◌, sym, ap, ◌∙◌}
 use borrow.Author.Rules.{rules}
-use Rattle.refusal_order.specs.Decide.{decisionOf, decide, passed}
-use Rattle.directory_reader.specs.Reader.{readerTests}
-use Rattle.directory_values.specs.Values.{shownGuid}
-use Rattle.directory_values.proofs.Lies.{guid-lies}
+use Rattle.refusal_order.specs.Decide.{decision_of, decide, passed}
+use Rattle.directory_reader.specs.Reader.{reader_tests}
+use Rattle.directory_values.specs.Values.{shown_guid}
+use Rattle.directory_values.proofs.Lies.{guid_lies}
 use Rattle.directory_values.proofs.type_guid.Statement.{statement}
 use Rattle.directory_values.proofs.type_guid.Tie as tie
 
 -- the directory is taken
-passes : (c : tie.After-enum-told2) → decide (readerTests c.before.before.before.before.args.d.now) ≡ passed
-passes c = sym c.before.before.refusal.ensures ∙ ap decisionOf c.enum-told2.given.1
+passes : (c : tie.After-enum-told2) → decide (reader_tests c.before.before.before.before.args.d.now) ≡ passed
+passes c = sym c.before.before.refusal.ensures ∙ ap decision_of c.enum-told2.given.1
 
 returns : tie.Need-returns
-unfolding shownGuid
+unfolding shown_guid
 returns c =
     let t = c.before in
     rw (← t.before.before.refusal.ensures, t.enum_told.given.1) c.part_of.ensures
@@ -24,11 +24,11 @@ guid-span-requires c κs = passes c
 part-of-requires-2 : tie.Need-part-of-requires-2
 part-of-requires-2 c κs =
     let a = c.before.before.before.before.before.args in
-    let l = rw (← c.guid-span.ensures) at (guid-lies a.d.now a.k (passes c.before)) in
+    let l = rw (← c.guid-span.ensures) at (guid_lies a.d.now a.k (passes c.before)) in
     (l.ordered, l.inside)
 
 returns-2 : tie.Need-returns-2
-unfolding shownGuid
+unfolding shown_guid
 returns-2 c =
     let g = c.before in
     let t = g.before in

@@ -5,17 +5,17 @@ use native.Mathlib.Omega.{arith}
 use borrow.Author.Tests.{lt-ltb, le-ltb, not-true, not-false}
 use borrow.Author.Rules.{rules}
 use Rattle.refusal_order.specs.Decide.{decide}
-use Rattle.record_layout.specs.Layout.{imageLimit}
-use Rattle.record_layout.proofs.Sound.{sound-sized, sound-long}
+use Rattle.record_layout.specs.Layout.{image_limit}
+use Rattle.record_layout.proofs.Sound.{sound_sized, sound_long}
 use Rattle.directory_writer.proofs.admit.Statement.{statement}
 use Rattle.directory_writer.proofs.admit.Tie as tie
 
 image-count-requires : tie.Need-image-count-requires
-image-count-requires c κs = let s = c.before.before in sound-long s.args.r.now s.requires
+image-count-requires c κs = let s = c.before.before in sound_long s.args.r.now s.requires
 
 -- there are few images
-few : (c : tie.After-image-count) → c.image-count.result ≤ imageLimit
-few c = let s = c.before.before.before in omega (arith, c.image-count.ensures, (sound-sized s.args.r.now s.requires).images-high)
+few : (c : tie.After-image-count) → c.image-count.result ≤ image_limit
+few c = let s = c.before.before.before in omega (arith, c.image-count.ensures, (sound_sized s.args.r.now s.requires).images_high)
 
 mul-if1 : tie.Need-overflow-mul-if1
 mul-if1 c = omega (arith, few c)

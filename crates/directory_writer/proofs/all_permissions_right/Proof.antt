@@ -8,14 +8,14 @@ use native.Mathlib.Nat.{add-zero}
 use native.Mathlib.Omega.{arith}
 use borrow.Author.Tests.{not-true, not-false}
 use borrow.Author.Rules.{rules}
-use Rattle.record_layout.proofs.Below.{Passed, passed_none, passed-more, passed-stop, passed-all}
-use Rattle.directory_layout.specs.Layout.{permissionsRight}
+use Rattle.record_layout.proofs.Below.{Passed, passed_none, passed_more, passed_stop, passed_all}
+use Rattle.directory_layout.specs.Layout.{permissions_right}
 use Rattle.directory_entries.specs.Installed.{word_for}
 use Rattle.directory_writer.proofs.all_permissions_right.Statement.{statement}
 use Rattle.directory_writer.proofs.all_permissions_right.Tie as tie
 
 abbrev test : List ℕ → ℕ → Bool
-test words i = permissionsRight (word_for words i 0)
+test words i = permissions_right (word_for words i 0)
 
 abbrev invariant-loop : tie.invariant-loop
 invariant-loop words images i₀ i = Passed (test words) images i
@@ -34,15 +34,15 @@ tested c = rw add-zero c.permissions-right.ensures
 returns : tie.Need-returns invariant-loop decreases-loop
 returns c =
     let t = c.before.before.before in
-    sym (passed-stop t.before.loop.invariant t.loop-test.true (sym (tested c.before) ∙ not-true _ c.if1.true))
+    sym (passed_stop t.before.loop.invariant t.loop-test.true (sym (tested c.before) ∙ not-true _ c.if1.true))
 
 loop-again : tie.Need-loop-preserved invariant-loop decreases-loop
 loop-again c =
     let t = c.before.before.before in
-    passed-more t.before.loop.invariant t.loop-test.true (sym (tested c.before) ∙ not-false _ c.if1.false)
+    passed_more t.before.loop.invariant t.loop-test.true (sym (tested c.before) ∙ not-false _ c.if1.false)
 
 returns-2 : tie.Need-returns-2 invariant-loop decreases-loop
-returns-2 c = sym (passed-all c.before.loop.invariant c.loop-test.false)
+returns-2 c = sym (passed_all c.before.loop.invariant c.loop-test.false)
 
 pub all-permissions-right-spec : {M : Type 1} → statement M
 all-permissions-right-spec =

@@ -8,7 +8,7 @@ use borrow.Author.Rules.{rules}
 use Rattle.update_session.specs.contracts.Session.{the_type}
 use Rattle.update_session.specs.declared.Session.{Session}
 use Rattle.update_session.specs.declared.Session.TheVariants.{Regular, Staging, Trial, Fallback, Restart}
-use Rattle.directory_writer.specs.Writer.{correctBootOf}
+use Rattle.directory_writer.specs.Writer.{correct_boot_of}
 use Rattle.directory_writer.proofs.correct_boot.Statement.{statement}
 use Rattle.directory_writer.proofs.correct_boot.Tie as tie
 
@@ -16,7 +16,7 @@ use Rattle.directory_writer.proofs.correct_boot.Tie as tie
 abbrev others : List ℕ
 others = 0 ∷ 1 ∷ 2 ∷ 4 ∷ []
 
-one : (q : Session) → OneOf others (tag_of the_type q) → 1 ≡ correctBootOf q
+one : (q : Session) → OneOf others (tag_of the_type q) → 1 ≡ correct_boot_of q
 one Regular h = refl
 one (Staging bank set) h = refl
 one Trial h = refl
@@ -24,7 +24,7 @@ one Fallback h = absurd (miss others 3 Prim.tt h)
 one Restart h = refl
 
 returns : tie.Need-returns
-returns c = sym (ap correctBootOf c.enum_told.given.1)
+returns c = sym (ap correct_boot_of c.enum_told.given.1)
 
 returns-2 : tie.Need-returns-2
 returns-2 c = one c.before.args.session c.match.keys2

@@ -2,9 +2,9 @@
 use mathlib.Core.Path.{sym, ap, ◌∙◌}
 use native.Mathlib.Omega.{arith}
 use borrow.Author.Rules.{rules}
-use Rattle.refusal_order.specs.Decide.{decisionOf}
-use Rattle.update_start_up.specs.StartUp.{startReply}
-use Rattle.directory_writer.proofs.Steps.{booted-refused, booted-passed, own-refused, own-passed, enough}
+use Rattle.refusal_order.specs.Decide.{decision_of}
+use Rattle.update_start_up.specs.StartUp.{start_reply}
+use Rattle.directory_writer.proofs.Steps.{booted_refused, booted_passed, own_refused, own_passed, enough}
 use Rattle.directory_writer.proofs.write_from.Statement.{statement}
 use Rattle.directory_writer.proofs.write_from.Tie as tie
 
@@ -15,8 +15,8 @@ put-directory-requires c κs =
     let k = a.before.before in
     let f = k.before.before in
     let s = f.before.before.before.before in
-    let b = booted-passed s.args.r.now s.args.booted _ (ap startReply (sym k.started2.given.1) ∙ f.session-from.ensures) in
-    let n = enough s.args.r.now s.args.words.now _ (ap decisionOf (sym t.enum_told.given.1) ∙ a.admit.ensures) in
+    let b = booted_passed s.args.r.now s.args.booted _ (ap start_reply (sym k.started2.given.1) ∙ f.session-from.ensures) in
+    let n = enough s.args.r.now s.args.words.now _ (ap decision_of (sym t.enum_told.given.1) ∙ a.admit.ensures) in
     (s.requires, b.0, b.1, n.0, n.1)
 
 returns : tie.Need-returns
@@ -24,8 +24,8 @@ returns c =
     let k = c.before in
     let f = k.before.before in
     let s = f.before.before.before.before in
-    booted-refused s.args.r.now s.args.booted s.args.words.now s.args.out.now k.started.given.0.0
-    (ap startReply (sym k.started.given.1) ∙ f.session-from.ensures)
+    booted_refused s.args.r.now s.args.booted s.args.words.now s.args.out.now k.started.given.0.0
+    (ap start_reply (sym k.started.given.1) ∙ f.session-from.ensures)
 
 returns-2 : tie.Need-returns-2
 returns-2 c =
@@ -34,9 +34,9 @@ returns-2 c =
     let k = a.before.before in
     let f = k.before.before in
     let s = f.before.before.before.before in
-    let b = booted-passed s.args.r.now s.args.booted _ (ap startReply (sym k.started2.given.1) ∙ f.session-from.ensures) in
-    own-refused s.args.r.now s.args.booted s.args.words.now s.args.out.now b.0 v.verdict.given.0.0
-    (ap decisionOf (sym v.verdict.given.1) ∙ a.admit.ensures)
+    let b = booted_passed s.args.r.now s.args.booted _ (ap start_reply (sym k.started2.given.1) ∙ f.session-from.ensures) in
+    own_refused s.args.r.now s.args.booted s.args.words.now s.args.out.now b.0 v.verdict.given.0.0
+    (ap decision_of (sym v.verdict.given.1) ∙ a.admit.ensures)
 
 returns-3 : tie.Need-returns-3
 returns-3 c =
@@ -46,9 +46,9 @@ returns-3 c =
     let k = a.before.before in
     let f = k.before.before in
     let s = f.before.before.before.before in
-    let b = booted-passed s.args.r.now s.args.booted _ (ap startReply (sym k.started2.given.1) ∙ f.session-from.ensures) in
-    own-passed s.args.r.now s.args.booted s.args.words.now s.args.out.now b.0 _ _
-    (ap decisionOf (sym t.enum_told.given.1) ∙ a.admit.ensures) p.put-directory.ensures.0 p.put-directory.ensures.1
+    let b = booted_passed s.args.r.now s.args.booted _ (ap start_reply (sym k.started2.given.1) ∙ f.session-from.ensures) in
+    own_passed s.args.r.now s.args.booted s.args.words.now s.args.out.now b.0 _ _
+    (ap decision_of (sym t.enum_told.given.1) ∙ a.admit.ensures) p.put-directory.ensures.0 p.put-directory.ensures.1
 
 pub write-from-spec : {M : Type 1} → statement M
 write-from-spec =

@@ -7,7 +7,7 @@ use lib.ListN.{length, take, drop, length-drop, length-set}
 use lib.Seq.{paste, paste-zero, paste-suc, get_or-drop}
 use borrow.Author.Rules.{rules}
 use Rattle.fields.specs.Number.{put}
-use Rattle.fields.proofs.Put.{put-paste}
+use Rattle.fields.proofs.Put.{put_paste}
 use Rattle.field_writes.proofs.write_part.Statement.{statement}
 use Rattle.field_writes.proofs.write_part.Tie as tie
 
@@ -42,7 +42,7 @@ returns c =
     let long : length source ≡ length a.t.now - a.from = length-drop a.from a.t.now in
     let e : l.loop.i ≡ a.n = omega arith in
     let m : a.from + a.n - a.from ≡ a.n = omega arith in
-    rw m ((rw e at l.loop.invariant.1) ∙ put-paste a.s.now a.at source a.n (omega arith))
+    rw m ((rw e at l.loop.invariant.1) ∙ put_paste a.s.now a.at source a.n (omega arith))
 
 pub write-part-spec : {M : Type 1} → statement M
 write-part-spec =

@@ -5,28 +5,28 @@ use Prim.Native.Nat.{suc, ◌+◌, ◌-◌, ◌≤◌}
 use native.Mathlib.Omega.{arith}
 use borrow.Author.Rules.{rules}
 use lib.ListN.{length, take}
-use Rattle.gather_place.specs.Place.{free, placeFor}
+use Rattle.gather_place.specs.Place.{free, place_for}
 use Rattle.gather_place.specs.declared.Place.TheVariants.{At}
 use Rattle.gather_place.proofs.Search.{found_at}
-use Rattle.gather.proofs.Ends.{total-zero, no_place, at_place}
+use Rattle.gather.proofs.Ends.{total_zero, no_place, at_place}
 use Rattle.gather.proofs.finish.Statement.{statement}
 use Rattle.gather.proofs.finish.Tie as tie
 
 returns : tie.Need-returns
 returns c =
     let a = c.before.before.args in
-    total-zero a.w.now a.base a.total (take a.count a.ds.now) c.if1.true
+    total_zero a.w.now a.base a.total (take a.count a.ds.now) c.if1.true
 
 -- the place that was found
 is_at : (c : tie.After-place)
     → let a = c.before.before.before.before.before.before.args in
-    placeFor a.w.now a.base a.total (take a.count a.ds.now) ≡ At c.place.given.0.0
+    place_for a.w.now a.base a.total (take a.count a.ds.now) ≡ At c.place.given.0.0
 is_at c = sym c.before.before.find-place.ensures ∙ c.place.given.1
 
 is_free : (c : tie.After-place)
     → let a = c.before.before.before.before.before.before.args in
     (a.base ≤ c.place.given.0.0) × (free a.w.now a.base a.total (take a.count a.ds.now) c.place.given.0.0 ≡ true)
-unfolding placeFor
+unfolding place_for
 is_free c =
     let a = c.before.before.before.before.before.before.args in
     found_at (free a.w.now a.base a.total (take a.count a.ds.now)) (suc (length a.w.now)) a.base c.place.given.0.0 (is_at c)

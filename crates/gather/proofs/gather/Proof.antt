@@ -7,8 +7,8 @@ use lib.ListN.{length, take, replicate, length-take}
 use lib.Seq.{get_or-take}
 use Rattle.gather_descriptors.specs.Reading.{whole, reading}
 use Rattle.gather_descriptors.specs.Scratch.{Readable}
-use Rattle.gather_descriptors.proofs.Whole.{found, was-refused, was-whole}
-use Rattle.gather.proofs.Ends.{list-refused, list-whole}
+use Rattle.gather_descriptors.proofs.Whole.{found, was_refused, was_whole}
+use Rattle.gather.proofs.Ends.{list_refused, list_whole}
 use Rattle.gather.proofs.gather.Statement.{statement}
 use Rattle.gather.proofs.gather.Tie as tie
 
@@ -20,7 +20,7 @@ was_read : (c : tie.After-read2)
 was_read c =
     let r = c.before.before in
     let a = r.before.before.before.before.args in
-    was-whole (reading a.w.now a.base a.first) (replicate 256 0) r.read-list.new.1.1.1.0 r.read-list.result
+    was_whole (reading a.w.now a.base a.first) (replicate 256 0) r.read-list.new.1.1.1.0 r.read-list.result
     c.read2.given.0.0 c.read2.given.0.1.0 r.read-list.ensures c.read2.given.1
 
 finish-requires : tie.Need-finish-requires
@@ -44,8 +44,8 @@ returns : tie.Need-returns
 returns c =
     let r = c.before.before.before in
     let a = r.before.before.before.before.args in
-    list-refused a.w.now a.base a.first c.before.read.given.0.0
-    (was-refused (reading a.w.now a.base a.first) 0 (replicate 256 0) r.read-list.new.1.1.1.0 r.read-list.result
+    list_refused a.w.now a.base a.first c.before.read.given.0.0
+    (was_refused (reading a.w.now a.base a.first) 0 (replicate 256 0) r.read-list.new.1.1.1.0 r.read-list.result
     c.before.read.given.0.0 r.read-list.ensures c.before.read.given.1)
 
 returns-2 : tie.Need-returns-2
@@ -57,7 +57,7 @@ returns-2 c =
     let new = r.read-list.new.1.1.1.0 in
     let n = g.read2.given.0.0 in
     let t = g.read2.given.0.1.0 in
-    f.finish.ensures ∙ list-whole a.w.now a.base a.first (whole t (take n new)) (was_read g).0
+    f.finish.ensures ∙ list_whole a.w.now a.base a.first (whole t (take n new)) (was_read g).0
 
 pub gather-spec : {M : Type 1} → statement M
 gather-spec =

@@ -6,7 +6,7 @@ use native.Mathlib.Omega.{arith}
 use borrow.Author.Rules.{rules}
 use lib.ListN.{length}
 use Rattle.gather_descriptors.specs.Reading.{length_of, address_of}
-use Rattle.gather_descriptors.proofs.Steps.{length_at, address-at}
+use Rattle.gather_descriptors.proofs.Steps.{length_at, address_at}
 use Rattle.gather_blocks.specs.Blocks.{block}
 use Rattle.gather_blocks.proofs.Copy.{no_block}
 use Rattle.gather_blocks.proofs.copy_block.Statement.{statement}
@@ -26,7 +26,7 @@ numbers c =
     let s = c.before.before.before.before.before.before in
     let a = s.args in (
       length_at a.w.now a.base a.d ∙ sym c.before.before.before.read64.ensures,
-      address-at a.w.now a.base a.d s.requires.readable.low ∙ sym c.read642.ensures,
+      address_at a.w.now a.base a.d s.requires.readable.low ∙ sym c.read642.ensures,
     )
 
 block_in : (c : tie.After-read642)

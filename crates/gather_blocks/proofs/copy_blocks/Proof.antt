@@ -8,7 +8,7 @@ use Rattle.fields.specs.Number.{put}
 use Rattle.gather_descriptors.specs.Reading.{length_of}
 use Rattle.gather_blocks.specs.Blocks.{block, blocks}
 use Rattle.gather_blocks.specs.Copy.{Ready}
-use Rattle.gather_blocks.proofs.Copy.{ready, after, next, none_yet, at-start}
+use Rattle.gather_blocks.proofs.Copy.{ready, after, next, none_yet, at_start}
 use Rattle.gather_blocks.proofs.copy_blocks.Statement.{statement}
 use Rattle.gather_blocks.proofs.copy_blocks.Tie as tie
 
@@ -22,7 +22,7 @@ decreases-loop w₀ base ds count p q₀ i₀ w q i = count - i
 loop-holds : tie.Need-loop-init invariant-loop decreases-loop
 loop-holds c =
     let a = c.before.args in
-    (omega arith, none_yet a.w.now a.base a.p, at-start a.w.now a.base a.p, refl)
+    (omega arith, none_yet a.w.now a.base a.p, at_start a.w.now a.base a.p, refl)
 
 -- one turn, at the values of the loop's head
 readied : (c : tie.In-loop invariant-loop decreases-loop)

@@ -9,7 +9,7 @@ use native.Mathlib.Omega.{arith}
 use native.Mathlib.Numerals.{add-one}
 use lib.ListN.{length, take, drop, get_or, set, length-drop, length-set}
 use lib.Seq.{paste, paste-zero, paste-suc, get_or-drop, length-take-le}
-use Rattle.fields.proofs.Put.{put-paste, put-outside}
+use Rattle.fields.proofs.Put.{put_paste, put_outside}
 use Rattle.gather_blocks.proofs.copy_bytes.Statement.{statement}
 use Rattle.gather_blocks.proofs.copy_bytes.Tie as tie
 
@@ -28,8 +28,8 @@ turn d w from to n i hf ht apart lt e =
     let li : length (take i (drop from d)) ≡ i = length-take-le i (drop from d) (omega arith) in
     let out : (from + i < to) ⊎ (to + length (take i (drop from d)) ≤ from + i) = ⊎_elim (λ h. inl (omega arith)) (λ h. inr (omega arith)) apart in
     let same : get_or w (from + i) 0 ≡ get_or (drop from d) i 0 =
-    ap (λ (l : List ℕ). get_or l (from + i) 0) (e ∙ put-paste d to (drop from d) i (omega arith))
-    ∙ put-outside d to (take i (drop from d)) (omega arith) (from + i) out
+    ap (λ (l : List ℕ). get_or l (from + i) 0) (e ∙ put_paste d to (drop from d) i (omega arith))
+    ∙ put_outside d to (take i (drop from d)) (omega arith) (from + i) out
     ∙ sym (get_or-drop from d i 0) in
     rw (same, e, add-one) (paste-suc d to (drop from d) i 0 (omega arith) (omega arith))
 
@@ -54,7 +54,7 @@ returns c =
     let a = l.before.args in
     let e : l.loop.i ≡ a.n = omega arith in
     let h : a.n ≤ length (drop a.from a.w.now) = rw length-drop (omega arith) in
-    (rw e at l.loop.invariant.1) ∙ put-paste a.w.now a.to (drop a.from a.w.now) a.n h
+    (rw e at l.loop.invariant.1) ∙ put_paste a.w.now a.to (drop a.from a.w.now) a.n h
 
 pub copy-bytes-spec : {M : Type 1} → statement M
 copy-bytes-spec =

@@ -11,11 +11,11 @@ use lib.ListN.{length, set, length-set}
 use borrow.Fn.Kinds.{In}
 use borrow.Fn.PlainCycle.{Measures, is, falls, and}
 use Rattle.refusals.specs.declared.Refusal.TheVariants.{BlockOutside, TotalLength}
-use Rattle.gather_window.specs.Window.{descriptorFits}
-use Rattle.gather_descriptors.specs.Reading.{Reading, refused, walk, jumpOrEnd, dataBlock, totalLimit}
+use Rattle.gather_window.specs.Window.{descriptor_fits}
+use Rattle.gather_descriptors.specs.Reading.{Reading, refused, walk, jump_or_end, data_block, total_limit}
 use Rattle.gather_descriptors.specs.Scratch.{ScratchHolds}
 use Rattle.gather_descriptors.specs.declared.Read.{Read}
-use Rattle.gather_descriptors.proofs.Steps.{rest, descriptor-ends, bad-address, went_on, ended, none_left, below, jumped-on}
+use Rattle.gather_descriptors.proofs.Steps.{rest, descriptor_ends, bad_address, went_on, ended, none_left, below, jumped_on}
 use Rattle.gather_descriptors.proofs.jump.Reads as jump
 use Rattle.gather_descriptors.proofs.jump.Kinds as jump-kinds
 use Rattle.gather_descriptors.proofs.+jump_run.Lts-jump as jump-lts
@@ -62,13 +62,13 @@ jump-returns t c =
 jump-returns-2 : (t : ℕ) → jump-lts.Need-returns-2 (jump-with t) (jump-at t) jump.Post
 jump-returns-2 t c =
     let s = c.before.before.before.args in
-    jumped-on s.w.now s.base s.address s.total s.left (256 - s.left) s.ds.now _ _ c.before.if1.false
+    jumped_on s.w.now s.base s.address s.total s.left (256 - s.left) s.ds.now _ _ c.before.if1.false
     (none_left s.w.now s.base s.address s.total s.left (256 - s.left) s.ds.now _ c.if2.true)
 
 jump-returns-3 : (t : ℕ) → jump-lts.Need-returns-3 (jump-with t) (jump-at t) jump.Post
 jump-returns-3 t c =
     let s = c.before.before.before.before.args in
-    jumped-on s.w.now s.base s.address s.total s.left (256 - s.left) s.ds.now _ _ c.before.before.if1.false
+    jumped_on s.w.now s.base s.address s.total s.left (256 - s.left) s.ds.now _ _ c.before.before.if1.false
     (below s.w.now s.base s.address s.total s.left (256 - s.left) s.ds.now _ c.before.if2.false c.if3.true)
 
 jump-returns-4 : (t : ℕ) → jump-lts.Need-returns-4 (jump-with t) (jump-at t) jump.Post
@@ -76,7 +76,7 @@ jump-returns-4 t c =
     let s = c.before.before.before.before.before.before in
     let a = s.args in
     let e : a.base + (a.address - a.base) ≡ a.address = omega arith in
-    jumped-on a.w.now a.base a.address a.total a.left (256 - a.left) a.ds.now _ _ c.before.before.before.before.if1.false
+    jumped_on a.w.now a.base a.address a.total a.left (256 - a.left) a.ds.now _ _ c.before.before.before.before.if1.false
     (rw e at c.run.ensures)
 
 run-returns : (t : ℕ) → run-lts.Need-returns (run-with t) (run_at t) run.Post
@@ -87,19 +87,19 @@ run-returns t c =
 run-returns-2 : (t : ℕ) → run-lts.Need-returns-2 (run-with t) (run_at t) run.Post
 run-returns-2 t c =
     let a = c.before.before.before.before.args in
-    bad-address a.w.now a.base a.at a.total a.left a.ds.now _ c.before.before.if1.false
+    bad_address a.w.now a.base a.at a.total a.left a.ds.now _ c.before.before.if1.false
     (sym c.before.descriptor-fits.ensures ∙ not-true _ c.if2.true)
 
 -- past the address test
 fits : (t : ℕ) (c : run-lts.Else2 (run-with t) (run_at t) run.Post)
-    → let a = c.before.before.before.before.args in descriptorFits a.base (length a.w.now) (a.base + a.at) ≡ true
+    → let a = c.before.before.before.before.args in descriptor_fits a.base (length a.w.now) (a.base + a.at) ≡ true
 fits t c = sym c.before.descriptor-fits.ensures ∙ not-false _ c.if2.false
 
 ends : (t : ℕ) (c : run-lts.Else2 (run-with t) (run_at t) run.Post)
     → let a = c.before.before.before.before.args in a.at + 16 ≤ length a.w.now
 ends t c =
     let a = c.before.before.before.before.args in
-    omega (arith, descriptor-ends a.base (length a.w.now) (a.base + a.at) (fits t c))
+    omega (arith, descriptor_ends a.base (length a.w.now) (a.base + a.at) (fits t c))
 
 run-add-ds : (t : ℕ) → run-lts.Need-overflow-add-ds (run-with t) (run_at t) run.Post
 run-add-ds t c = omega (arith, ends t c)
@@ -130,19 +130,19 @@ run-returns-3 : (t : ℕ) → run-lts.Need-returns-3 (run-with t) (run_at t) run
 run-returns-3 t c =
     let q = c.before.before.before in
     let a = q.before.before.before.before.before.before.args in
-    on t q _ _ (jumpOrEnd q.read642.result a.total (λ next. walk (a.left - 1) a.w.now a.base next a.total))
+    on t q _ _ (jump_or_end q.read642.result a.total (λ next. walk (a.left - 1) a.w.now a.base next a.total))
     (rw (eq-eqb _ _ c.before.before.if3.true))
     c.jump.ensures
 
 run-returns-4 : (t : ℕ) → run-lts.Need-returns-4 (run-with t) (run_at t) run.Post
-unfolding ScratchHolds dataBlock
+unfolding ScratchHolds data_block
 run-returns-4 t c =
     on t c.before.before.before _ _ (refused BlockOutside)
     (rw (ne_eqb _ _ c.before.before.if3.false, sym c.before.block-fits.ensures ∙ not-true _ c.if4.true))
     refl
 
 run-returns-5 : (t : ℕ) → run-lts.Need-returns-5 (run-with t) (run_at t) run.Post
-unfolding ScratchHolds dataBlock
+unfolding ScratchHolds data_block
 run-returns-5 t c =
     let q = c.before.before.before.before in
     let a = q.before.before.before.before.before.before.args in
@@ -150,7 +150,7 @@ run-returns-5 t c =
     (rw (
       ne_eqb _ _ c.before.before.before.if3.false,
       sym c.before.before.block-fits.ensures ∙ not-false _ c.before.if4.false,
-      lt-leb (a.total + q.before.read64.result) totalLimit (omega arith),
+      lt-leb (a.total + q.before.read64.result) total_limit (omega arith),
     ))
     refl
 
@@ -158,7 +158,7 @@ run-add-run : (t : ℕ) → run-lts.Need-overflow-add-run (run-with t) (run_at t
 run-add-run t c = omega (arith, ends t c.before.before.before.before.before.before)
 
 run-returns-6 : (t : ℕ) → run-lts.Need-returns-6 (run-with t) (run_at t) run.Post
-unfolding dataBlock
+unfolding data_block
 run-returns-6 t c =
     let q = c.before.before.before.before.before.before in
     let a = q.before.before.before.before.before.before.args in
@@ -167,7 +167,7 @@ run-returns-6 t c =
     (rw (
       ne_eqb _ _ c.before.before.before.before.before.if3.false,
       sym c.before.before.before.before.block-fits.ensures ∙ not-false _ c.before.before.before.if4.false,
-      le-leb (a.total + q.before.read64.result) totalLimit (omega arith),
+      le-leb (a.total + q.before.read64.result) total_limit (omega arith),
       n,
     ))
     c.run.ensures

@@ -6,7 +6,7 @@ use Prim.Native.Nat.{◌+◌, ◌-◌, ◌^◌}
 use native.Mathlib.Omega.{arith}
 use borrow.Author.Tests.{ltb-false, not-true, not-false}
 use lib.ListN.{length}
-use Rattle.gather_window.specs.Window.{pastEnd}
+use Rattle.gather_window.specs.Window.{past_window_end}
 use Rattle.gather_descriptors.specs.Reading.{reading}
 use Rattle.gather_descriptors.specs.Scratch.{ScratchHolds}
 use Rattle.gather_descriptors.proofs.Steps.{below}
@@ -17,11 +17,11 @@ returns : tie.Need-returns
 unfolding reading ScratchHolds
 returns c =
     let a = c.before.before.before.args in
-    let e : pastEnd a.base (length a.w.now) ≡ true =
+    let e : past_window_end a.base (length a.w.now) ≡ true =
     not-false _ (sym c.before.window-fits.ensures ∙ not-true _ c.if1.true) in
     rw e
 
-in_window : (c : tie.Else1) → let a = c.before.before.before.args in pastEnd a.base (length a.w.now) ≡ false
+in_window : (c : tie.Else1) → let a = c.before.before.before.args in past_window_end a.base (length a.w.now) ≡ false
 in_window c = not-true _ (sym c.before.window-fits.ensures ∙ not-false _ c.if1.false)
 
 returns-2 : tie.Need-returns-2

@@ -5,9 +5,9 @@ use mathlib.Core.Logic.{⊎_elim}
 use Prim.Native.Nat.{ℕ, suc, ◌+◌, ◌-◌, ◌≤◌, ◌<◌}
 use native.Mathlib.Omega.{arith}
 use lib.ListN.{length, take}
-use Rattle.fields.proofs.Tests.{le-or-lt}
-use Rattle.gather_place.specs.Place.{free, placeFor}
-use Rattle.gather_place.proofs.Search.{too-high, not-clear, is_free, lowest-at, lowest-none}
+use Rattle.fields.proofs.Tests.{le_or_lt}
+use Rattle.gather_place.specs.Place.{free, place_for}
+use Rattle.gather_place.proofs.Search.{too_high, not_clear, is_free, lowest_at, lowest_none}
 use Rattle.gather_place.proofs.find_place.Statement.{statement}
 use Rattle.gather_place.proofs.find_place.Tie as tie
 
@@ -26,7 +26,7 @@ next-start-requires c κs =
     (p.0, p.1, p.2, omega arith)
 
 returns : tie.Need-returns invariant-loop decreases-loop
-unfolding placeFor
+unfolding place_for
 returns c =
     let l = c.before.before.before in
     let a = l.before.before.args in
@@ -34,7 +34,7 @@ returns c =
     let ds = take a.count a.ds.now in
     let p = a.base + l.loop.p in
     sym
-    (lowest-at (free w a.base a.t ds) (suc (length w)) a.base p (omega arith) (omega arith)
+    (lowest_at (free w a.base a.t ds) (suc (length w)) a.base p (omega arith) (omega arith)
     (is_free w a.base a.t ds p (omega arith) (omega arith) (c.before.next_start.ensures.0 c.if1.true))
     (λ j le lt.
     let e : a.base + (j - a.base) ≡ j = omega arith in
@@ -55,25 +55,25 @@ loop-again c =
       omega arith,
       λ q lt.
           ⊎_elim
-          (λ le. not-clear a.w.now a.base a.t ds (a.base + q) (e.2 q le lt))
+          (λ le. not_clear a.w.now a.base a.t ds (a.base + q) (e.2 q le lt))
           (λ lower. l.loop.invariant.2 q lower)
-          (le-or-lt l.loop.p q),
+          (le_or_lt l.loop.p q),
     )
 
 returns-2 : tie.Need-returns-2 invariant-loop decreases-loop
-unfolding placeFor
+unfolding place_for
 returns-2 c =
     let l = c.before in
     let a = l.before.before.args in
     let w = a.w.now in
     let ds = take a.count a.ds.now in
     sym
-    (lowest-none (free w a.base a.t ds) (suc (length w)) a.base (λ j le.
+    (lowest_none (free w a.base a.t ds) (suc (length w)) a.base (λ j le.
     let e : a.base + (j - a.base) ≡ j = omega arith in
     ⊎_elim
-    (λ high. too-high w a.base a.t ds j (omega arith))
+    (λ high. too_high w a.base a.t ds j (omega arith))
     (λ lower. rw e at (l.loop.invariant.2 (j - a.base) lower))
-    (le-or-lt l.loop.p (j - a.base))))
+    (le_or_lt l.loop.p (j - a.base))))
 
 pub find-place-spec : {M : Type 1} → statement M
 find-place-spec =

@@ -7,9 +7,9 @@ use borrow.Author.Rules.{rules}
 use borrow.Author.Tests.{not-true, not-false}
 use lib.ListN.{length}
 use Rattle.gather_descriptors.specs.Reading.{length_of, address_of}
-use Rattle.gather_descriptors.proofs.Steps.{length_at, address-at}
-use Rattle.gather_place.specs.Place.{apart, clearOf}
-use Rattle.gather_place.proofs.Ranges.{apart-at, meets, meets-descriptor, meets-block, clear-no-block, clear_both}
+use Rattle.gather_descriptors.proofs.Steps.{length_at, address_at}
+use Rattle.gather_place.specs.Place.{apart, clear_of}
+use Rattle.gather_place.proofs.Ranges.{apart_at, meets, meets_descriptor, meets_block, clear_no_block, clear_both}
 use Rattle.gather_place.proofs.Search.{passed_over, passes}
 use Rattle.gather_place.proofs.shared_end.Statement.{statement}
 use Rattle.gather_place.proofs.shared_end.Tie as tie
@@ -21,15 +21,15 @@ returns c =
     let w = a.w.now in
     let m = meets a.p a.t (a.d - a.base) 16 (not-true _ (sym c.before.share.ensures ∙ c.if1.true)) in
     let r = s.requires.0 in
-    passed_over (λ (q : ℕ). clearOf w a.base a.t (a.base + q) a.d) (length w) a.p (a.d - a.base + 16) m.0 (omega arith)
-    (λ q le lt. meets-descriptor w a.base a.t (a.base + q) a.d (apart-at a.base q a.t a.d 16 r.low ∙ m.1 q le lt))
+    passed_over (λ (q : ℕ). clear_of w a.base a.t (a.base + q) a.d) (length w) a.p (a.d - a.base + 16) m.0 (omega arith)
+    (λ q le lt. meets_descriptor w a.base a.t (a.base + q) a.d (apart_at a.base q a.t a.d 16 r.low ∙ m.1 q le lt))
 
 -- past the first test: the start is clear of the descriptor
-clear-descriptor : (c : tie.Else1)
+clear_descriptor : (c : tie.Else1)
     → let a = c.before.before.before.args in apart (a.base + a.p) a.t a.d 16 ≡ true
-clear-descriptor c =
+clear_descriptor c =
     let a = c.before.before.before.args in
-    apart-at a.base a.p a.t a.d 16 c.before.before.before.requires.0.low
+    apart_at a.base a.p a.t a.d 16 c.before.before.before.requires.0.low
     ∙ not-false _ (sym c.before.share.ensures ∙ c.if1.false)
 
 returns-2 : tie.Need-returns-2
@@ -37,8 +37,8 @@ returns-2 c =
     let e = c.before.before in
     let a = e.before.before.before.args in
     let w = a.w.now in
-    passes (λ (q : ℕ). clearOf w a.base a.t (a.base + q) a.d) (length w) a.p
-    (clear-no-block w a.base a.t (a.base + a.p) a.d (clear-descriptor e)
+    passes (λ (q : ℕ). clear_of w a.base a.t (a.base + q) a.d) (length w) a.p
+    (clear_no_block w a.base a.t (a.base + a.p) a.d (clear_descriptor e)
     (length_at w a.base a.d ∙ sym c.before.read64.ensures ∙ c.if2.true))
 
 -- past the second: the block's two numbers, and that it lies in the window
@@ -49,7 +49,7 @@ numbers c =
     let s = c.before.before.before.before.before.before in
     let a = s.args in (
       length_at a.w.now a.base a.d ∙ sym c.before.before.read64.ensures,
-      address-at a.w.now a.base a.d s.requires.0.low ∙ sym c.read642.ensures,
+      address_at a.w.now a.base a.d s.requires.0.low ∙ sym c.read642.ensures,
     )
 
 block_in : (c : tie.After-read642)
@@ -80,10 +80,10 @@ returns-3 c =
     let size = r.before.before.read64.result in
     let at = r.read642.result - a.base in
     let m = meets a.p a.t at size (not-true _ (sym c.before.share2.ensures ∙ c.if3.true)) in
-    passed_over (λ (q : ℕ). clearOf w a.base a.t (a.base + q) a.d) (length w) a.p (at + size) m.0 (omega arith)
+    passed_over (λ (q : ℕ). clear_of w a.base a.t (a.base + q) a.d) (length w) a.p (at + size) m.0 (omega arith)
     (λ q le lt.
-    meets-block w a.base a.t (a.base + q) a.d (λ z. r.before.if2.false (sym n.0 ∙ z))
-    (rw (n.0, n.1) (apart-at a.base q a.t r.read642.result size b.0 ∙ m.1 q le lt)))
+    meets_block w a.base a.t (a.base + q) a.d (λ z. r.before.if2.false (sym n.0 ∙ z))
+    (rw (n.0, n.1) (apart_at a.base q a.t r.read642.result size b.0 ∙ m.1 q le lt)))
 
 returns-4 : tie.Need-returns-4
 returns-4 c =
@@ -93,10 +93,10 @@ returns-4 c =
     let w = a.w.now in
     let n = numbers r in
     let size = r.before.before.read64.result in
-    passes (λ (q : ℕ). clearOf w a.base a.t (a.base + q) a.d) (length w) a.p
-    (clear_both w a.base a.t (a.base + a.p) a.d (clear-descriptor r.before.before.before) (λ z. r.before.if2.false (sym n.0 ∙ z))
+    passes (λ (q : ℕ). clear_of w a.base a.t (a.base + q) a.d) (length w) a.p
+    (clear_both w a.base a.t (a.base + a.p) a.d (clear_descriptor r.before.before.before) (λ z. r.before.if2.false (sym n.0 ∙ z))
     (rw (n.0, n.1)
-    (apart-at a.base a.p a.t r.read642.result size (block_in r).0 ∙ not-false _ (sym c.before.share2.ensures ∙ c.if3.false))))
+    (apart_at a.base a.p a.t r.read642.result size (block_in r).0 ∙ not-false _ (sym c.before.share2.ensures ∙ c.if3.false))))
 
 pub shared-end-spec : {M : Type 1} → statement M
 shared-end-spec =

@@ -4,10 +4,10 @@ use Prim.Native.Nat.{ℕ, ◌+◌, ◌*◌, ◌-◌, ◌/◌, ◌%◌, ◌<◌}
 use native.Mathlib.Omega.{arith}
 use borrow.Author.Rules.{rules}
 use Rattle.fields.specs.Number.{le}
-use Rattle.record_layout.specs.Layout.{acceptedAt}
-use Rattle.record_alterations.specs.Altered.{alteredBy}
-use Rattle.record_alterations.proofs.Places.{place-told, place_of}
-use Rattle.record_alterations.proofs.Words.{bank-below, altered-miss, altered-flag}
+use Rattle.record_layout.specs.Layout.{accepted_at}
+use Rattle.record_alterations.specs.Altered.{altered_by}
+use Rattle.record_alterations.proofs.Places.{place_told, place_of}
+use Rattle.record_alterations.proofs.Words.{bank_below, altered_miss, altered_flag}
 use Rattle.record_alterations.proofs.entry_word.Statement.{statement}
 use Rattle.record_alterations.proofs.entry_word.Tie as tie
 
@@ -16,15 +16,15 @@ miss : (k : tie.After-entry-size)
     → let a = k.before.before.args in
     let size = k.entry-size.result in
     ((j : ℕ) → j < a.x.count → (a.o - 40) / size ≡ a.x.first + j → (a.o - 40) % size ≡ 32 + 24 * a.x.bank + 16 → ⊥)
-    → le 4 a.r.now a.o ≡ le 4 (alteredBy a.x a.r.now) a.o
+    → le 4 a.r.now a.o ≡ le 4 (altered_by a.x a.r.now) a.o
 miss k other =
     let s = k.before.before in
     let a = s.args in
     let p = s.requires in
-    let below = bank-below a.x a.r.now a.banks p.0 in
+    let below = bank_below a.x a.r.now a.banks p.0 in
     sym
-    (altered-miss a.x a.r.now a.banks p.0 a.o p.1.low p.1.whole (λ j lt e.
-    let q = place-told a.banks a.x.bank below (a.x.first + j) a.o e in
+    (altered_miss a.x a.r.now a.banks p.0 a.o p.1.low p.1.whole (λ j lt e.
+    let q = place_told a.banks a.x.bank below (a.x.first + j) a.o e in
     other j lt (rw k.entry-size.ensures q.0) (rw k.entry-size.ensures q.1)))
 
 entry-size-requires : tie.Need-entry-size-requires
@@ -84,16 +84,16 @@ returns-4 c =
     let s = z.before.before in
     let a = s.args in
     let p = s.requires in
-    let below = bank-below a.x a.r.now a.banks p.0 in
+    let below = bank_below a.x a.r.now a.banks p.0 in
     let image = (a.o - 40) / z.entry-size.result in
     let j = image - a.x.first in
-    let e : a.o ≡ acceptedAt a.banks image a.x.bank =
+    let e : a.o ≡ accepted_at a.banks image a.x.bank =
     rw z.entry-size.ensures (place_of a.banks a.x.bank below a.o p.1.low (rw z.entry-size.ensures at e1.if1.false)) in
     let i : image ≡ a.x.first + j = omega (arith, k.before.if2.false) in
     let small : a.x.flag < 4294967296 = k.struct-known3.given.1.1.1.1.1.1.0.fits in
     sym
-    (ap (λ (o : ℕ). le 4 (alteredBy a.x a.r.now) o) (e ∙ ap (λ (n : ℕ). acceptedAt a.banks n a.x.bank) i)
-    ∙ altered-flag a.x a.r.now a.banks p.0 j small (omega (arith, c.if3.false, k.before.if2.false)))
+    (ap (λ (o : ℕ). le 4 (altered_by a.x a.r.now) o) (e ∙ ap (λ (n : ℕ). accepted_at a.banks n a.x.bank) i)
+    ∙ altered_flag a.x a.r.now a.banks p.0 j small (omega (arith, c.if3.false, k.before.if2.false)))
 
 pub entry-word-spec : {M : Type 1} → statement M
 entry-word-spec =

@@ -8,28 +8,28 @@ use borrow.Author.Rules.{rules}
 use lib.Bits.{bit_xor}
 use lib.ListN.{length, drop, drop_of_length-le}
 use Rattle.fields.specs.Number.{Bytes, le, bytes}
-use Rattle.fields.proofs.Bytes.{drop-number}
-use Rattle.record_crc.specs.Crc.{withBytes, allOnes, crc32Of}
-use Rattle.record_crc.proofs.Register.{withBytes-append}
-use Rattle.record_alterations.specs.Altered.{alteredBy}
-use Rattle.record_alterations.proofs.Walk.{Walk, walk_first, walk-word, walk_more}
-use Rattle.record_alterations.proofs.Words.{altered-length, altered-bytes}
+use Rattle.fields.proofs.Bytes.{drop_number}
+use Rattle.record_crc.specs.Crc.{with_bytes, all_ones, crc32_of}
+use Rattle.record_crc.proofs.Register.{with_bytes_append}
+use Rattle.record_alterations.specs.Altered.{altered_by}
+use Rattle.record_alterations.proofs.Walk.{Walk, walk_first, walk_word, walk_more}
+use Rattle.record_alterations.proofs.Words.{altered_length, altered_bytes}
 use Rattle.record_alterations.proofs.new_crc.Statement.{statement}
 use Rattle.record_alterations.proofs.new_crc.Tie as tie
 
 abbrev invariant-loop : tie.invariant-loop
-invariant-loop r banks x t q₀ o₀ q o = Walk r o × (withBytes allOnes (drop 4 (alteredBy x r)) ≡ withBytes q (drop o (alteredBy x r)))
+invariant-loop r banks x t q₀ o₀ q o = Walk r o × (with_bytes all_ones (drop 4 (altered_by x r)) ≡ with_bytes q (drop o (altered_by x r)))
 
 abbrev decreases-loop : tie.decreases-loop
 decreases-loop r banks x t q₀ o₀ q o = length r - o
 
 -- a turn: one word more
-turn : (s : List ℕ) (q w p o : ℕ) → Bytes s → o + 4 ≤ length s → w ≡ le 4 s o → p ≡ withBytes q (bytes 4 w)
-    → withBytes q (drop o s) ≡ withBytes p (drop (o + 4) s)
+turn : (s : List ℕ) (q w p o : ℕ) → Bytes s → o + 4 ≤ length s → w ≡ le 4 s o → p ≡ with_bytes q (bytes 4 w)
+    → with_bytes q (drop o s) ≡ with_bytes p (drop (o + 4) s)
 turn s q w p o b h ew ep =
-    ap (withBytes q) (drop-number 4 s o b h)
-    ∙ withBytes-append q (bytes 4 (le 4 s o)) (drop (o + 4) s)
-    ∙ ap (λ (k : ℕ). withBytes k (drop (o + 4) s)) (ap (λ (v : ℕ). withBytes q (bytes 4 v)) (sym ew) ∙ sym ep)
+    ap (with_bytes q) (drop_number 4 s o b h)
+    ∙ with_bytes_append q (bytes 4 (le 4 s o)) (drop (o + 4) s)
+    ∙ ap (λ (k : ℕ). with_bytes k (drop (o + 4) s)) (ap (λ (v : ℕ). with_bytes q (bytes 4 v)) (sym ew) ∙ sym ep)
 
 loop-holds : tie.Need-loop-init invariant-loop decreases-loop
 loop-holds c = (walk_first c.before.before.requires.sized, refl)
@@ -39,7 +39,7 @@ new-word-requires c κs =
     let t = c.before in
     let l = t.before in
     let p = l.before.before.before.requires in
-    (p, walk-word p.sized l.loop.invariant.0 t.loop-test.true)
+    (p, walk_word p.sized l.loop.invariant.0 t.loop-test.true)
 
 with-word-requires : tie.Need-with-word-requires invariant-loop decreases-loop
 with-word-requires c κs = c.before.before.before.before.crc-table.ensures
@@ -65,21 +65,21 @@ loop-again c =
     let more = walk_more s.requires.sized i.0 t.loop-test.true in (
       more,
       i.1
-          ∙ turn (alteredBy a.x a.r.now) l.loop.q n.new_IsWord.result c.with-word.result l.loop.o
-          (altered-bytes a.x a.r.now a.banks s.requires (λ j. (k.shared-slice-known.given j).fits))
-          (rw (altered-length a.x a.r.now a.banks s.requires) more.inside) n.new_IsWord.ensures c.with-word.ensures,
+          ∙ turn (altered_by a.x a.r.now) l.loop.q n.new_IsWord.result c.with-word.result l.loop.o
+          (altered_bytes a.x a.r.now a.banks s.requires (λ j. (k.shared-slice-known.given j).fits))
+          (rw (altered_length a.x a.r.now a.banks s.requires) more.inside) n.new_IsWord.ensures c.with-word.ensures,
     )
 
 returns : tie.Need-returns invariant-loop decreases-loop
-unfolding crc32Of withBytes
+unfolding crc32_of with_bytes
 returns c =
     let l = c.before in
     let s = l.before.before.before in
     let a = s.args in
-    let N = alteredBy a.x a.r.now in
-    let h : length N ≤ l.loop.o = rw (altered-length a.x a.r.now a.banks s.requires) c.loop-test.false in
+    let N = altered_by a.x a.r.now in
+    let h : length N ≤ l.loop.o = rw (altered_length a.x a.r.now a.banks s.requires) c.loop-test.false in
     let e : drop l.loop.o N ≡ [] = drop_of_length-le N h in
-    ap (λ (k : ℕ). bit_xor k allOnes) (sym (l.loop.invariant.1 ∙ ap (withBytes l.loop.q) e))
+    ap (λ (k : ℕ). bit_xor k all_ones) (sym (l.loop.invariant.1 ∙ ap (with_bytes l.loop.q) e))
 
 pub new-crc-spec : {M : Type 1} → statement M
 new-crc-spec =

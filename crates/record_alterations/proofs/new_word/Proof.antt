@@ -4,7 +4,7 @@ use mathlib.Core.Path.{◌≡◌, sym, ◌∙◌}
 use Prim.Native.Nat.{ℕ, ◌+◌, ◌*◌, ◌/◌, ◌<◌, ◌≤◌}
 use native.Mathlib.Omega.{arith}
 use borrow.Author.Rules.{rules}
-use Rattle.record_alterations.proofs.Words.{altered-other, altered-active, altered-previous, altered-states}
+use Rattle.record_alterations.proofs.Words.{altered_other, altered_active, altered_previous, altered_states}
 use Rattle.record_alterations.proofs.new_word.Statement.{statement}
 use Rattle.record_alterations.proofs.new_word.Tie as tie
 
@@ -15,19 +15,19 @@ returns : tie.Need-returns
 returns c =
     let s = c.before.before in
     let a = s.args in
-    rw c.if1.true (sym (altered-active a.x a.r.now a.banks s.requires.0 s.well-formed.1.1.0.1.1.0.1))
+    rw c.if1.true (sym (altered_active a.x a.r.now a.banks s.requires.0 s.well-formed.1.1.0.1.1.0.1))
 
 returns-2 : tie.Need-returns-2
 returns-2 c =
     let s = c.before.before.before in
     let a = s.args in
-    rw c.if2.true (sym (altered-previous a.x a.r.now a.banks s.requires.0 s.well-formed.1.1.0.1.1.1.0.1))
+    rw c.if2.true (sym (altered_previous a.x a.r.now a.banks s.requires.0 s.well-formed.1.1.0.1.1.1.0.1))
 
 returns-3 : tie.Need-returns-3
 returns-3 c =
     let s = c.before.before.before.before in
     let a = s.args in
-    rw c.if3.true (sym (altered-states a.x a.r.now a.banks s.requires.0 s.well-formed.1.1.0.1.1.1.1.0.1))
+    rw c.if3.true (sym (altered_states a.x a.r.now a.banks s.requires.0 s.well-formed.1.1.0.1.1.1.1.0.1))
 
 read32-requires : tie.Need-read32-requires
 read32-requires c κs = search rules
@@ -43,7 +43,7 @@ returns-4 c =
     let w = s.requires.1 in
     c.read32.ensures
     ∙ sym
-    (altered-other a.x a.r.now a.banks s.requires.0 a.o (below-header a.o t.if4.true w.whole) w.whole e1.if1.false
+    (altered_other a.x a.r.now a.banks s.requires.0 a.o (below-header a.o t.if4.true w.whole) w.whole e1.if1.false
     e2.if2.false e3.if3.false)
 
 entry-word-requires : tie.Need-entry-word-requires

@@ -1,6 +1,6 @@
 -- `records_equal` meets its contract. Assumes nothing.
 use borrow.Author.Rules.{rules}
-use Rattle.record_copies.specs.Copies.{recordsEqual}
+use Rattle.record_copies.specs.Copies.{records_equal}
 use Rattle.record_copies.proofs.records_equal.Statement.{statement}
 use Rattle.record_copies.proofs.records_equal.Tie as tie
 
@@ -14,7 +14,7 @@ same-bytes-requires : tie.Need-same-bytes-requires
 same-bytes-requires c κs = search rules
 
 returns : tie.Need-returns
-unfolding recordsEqual
+unfolding records_equal
 returns c = rw (c.same_bytes.ensures, c.before.before.record-in-copy0.ensures, c.before.record-in-copy1.ensures)
 
 pub records-equal-spec : {M : Type 1} → statement M

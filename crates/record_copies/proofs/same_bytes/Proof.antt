@@ -8,7 +8,7 @@ use mathlib.Core.Path.{◌≡◌, refl, sym, ap}
 use native.Mathlib.Omega.{arith}
 use borrow.Author.Rules.{rules}
 use Rattle.fields.proofs.Guid.{same_refl, same_false}
-use Rattle.fields.proofs.Tests.{le-or-lt}
+use Rattle.fields.proofs.Tests.{le_or_lt}
 use Rattle.record_copies.proofs.same_bytes.Statement.{statement}
 use Rattle.record_copies.proofs.same_bytes.Tie as tie
 
@@ -53,7 +53,7 @@ loop-again c =
           ⊎_elim
           (λ le. let z : k ≡ l.loop.i = omega arith in rw z c.if2.false)
           (λ lower. l.loop.invariant.2 k lower)
-          (le-or-lt l.loop.i k),
+          (le_or_lt l.loop.i k),
     )
 
 returns-3 : tie.Need-returns-3 invariant-loop decreases-loop

@@ -6,14 +6,14 @@ use mathlib.Core.Path.{◌≡◌, sym, ◌∙◌}
 use native.Mathlib.Omega.{arith}
 use borrow.Author.Rules.{rules}
 use Rattle.fields.specs.Number.{le}
-use Rattle.record_layout.specs.Layout.{imageCount}
-use Rattle.record_layout.proofs.Copies.{copy_is, copy-long}
+use Rattle.record_layout.specs.Layout.{image_count}
+use Rattle.record_layout.proofs.Copies.{copy_is, copy_long}
 use Rattle.record_stores.specs.Added.{Added, stored}
 use Rattle.record_stores.specs.Stores.{Store, offsets}
-use Rattle.record_stores.proofs.Laid.{added_then, stored_one, plan-parts}
+use Rattle.record_stores.proofs.Laid.{added_then, stored_one, plan_parts}
 use Rattle.record_stores.proofs.Listable.{listable, short}
-use Rattle.record_alterations.specs.Altered.{recordWith}
-use Rattle.record_alterations.proofs.Words.{new-length, new-crc, new-version}
+use Rattle.record_alterations.specs.Altered.{record_with}
+use Rattle.record_alterations.proofs.Words.{new_length, new_crc, new_version}
 use Rattle.record_copy_stores.proofs.put_copy.Statement.{statement}
 use Rattle.record_copy_stores.proofs.put_copy.Tie as tie
 
@@ -56,8 +56,8 @@ put-words-requires c κs =
     let A = a.area.now in
     let b = a.base in (
       s.requires.0,
-      listable (take (b + 8192 - b) (drop b A)) a.r.now a.banks (imageCount a.r.now) b p2.put-differing.result
-          (length p2.put-differing.new.1.1.1.0) s.requires.0.sized (rw (copy_is A b) (copy-long A b s.requires.2 s.requires.3)) s.requires.3
+      listable (take (b + 8192 - b) (drop b A)) a.r.now a.banks (image_count a.r.now) b p2.put-differing.result
+          (length p2.put-differing.new.1.1.1.0) s.requires.0.sized (rw (copy_is A b) (copy_long A b s.requires.2 s.requires.3)) s.requires.3
           (omega (arith, p1.put-pair.ensures.count, p2.put-differing.ensures.1, s.requires.4))
           (omega (arith, p1.put-pair.ensures.kept, p2.put-differing.ensures.0.kept, s.requires.5)),
     )
@@ -80,7 +80,7 @@ put-pair-requires-2 c κs =
     let a = s.args in
     omega (
       arith,
-      short a.r.now a.banks (imageCount a.r.now) s.requires.0.sized,
+      short a.r.now a.banks (image_count a.r.now) s.requires.0.sized,
       s.requires.4,
       s.requires.5,
       p1.put-pair.ensures.count,
@@ -106,7 +106,7 @@ returns c =
     let a = s.args in
     let b = a.base in
     let C = take (b + 8192 - b) (drop b a.area.now) in
-    let N = recordWith a.x a.r.now in
+    let N = record_with a.x a.r.now in
     let w0 = a.out.now in
     let w1 = p1.put-pair.new.0 in
     let w2 = p2.put-differing.new.1.1.1.0 in
@@ -120,17 +120,17 @@ returns c =
     let B = stored b C N (0 ∷ []) in
     let D = stored b C N (offsets 8 (length N / 4 - 2)) in
     let Z : List Store = (b + 4, le 4 N 4) ∷ [] in
-    let crc : a.crc ≡ le 4 N 0 = sym (new-crc a.x a.r.now a.banks s.requires.0 a.crc s.ranges.crc.fits s.requires.1) in
-    let version : v.version.result ≡ le 4 N 4 = v.version.ensures ∙ sym (new-version a.x a.r.now a.banks s.requires.0) in
+    let crc : a.crc ≡ le 4 N 0 = sym (new_crc a.x a.r.now a.banks s.requires.0 a.crc s.ranges.crc.fits s.requires.1) in
+    let version : v.version.result ≡ le 4 N 4 = v.version.ensures ∙ sym (new_version a.x a.r.now a.banks s.requires.0) in
     let second : Added n1 n2 B w1 w2 = rw (← stored_one b C N 0, ← y.read32.ensures, ← crc) p2.put-differing.ensures.0 in
-    let third : Added n2 n3 D w2 w3 = rw (new-length a.x a.r.now a.banks s.requires.0) p3.put-words.ensures.0 in
+    let third : Added n2 n3 D w2 w3 = rw (new_length a.x a.r.now a.banks s.requires.0) p3.put-words.ensures.0 in
     let last : Added n3 n4 Z w3 w4 = rw (← version) p4.put-pair2.ensures in (
-      rw (← copy_is a.area.now b, plan-parts b C N)
+      rw (← copy_is a.area.now b, plan_parts b C N)
           (added_then a.k n1 n4 A (B ++ (D ++ Z)) w0 w1 w4 p1.put-pair.ensures
           (added_then n1 n2 n4 B (D ++ Z) w1 w2 w4 second (added_then n2 n3 n4 D Z w2 w3 w4 third last))),
       omega (
         arith,
-        short a.r.now a.banks (imageCount a.r.now) s.requires.0.sized,
+        short a.r.now a.banks (image_count a.r.now) s.requires.0.sized,
         p1.put-pair.ensures.count,
         p2.put-differing.ensures.1,
         p3.put-words.ensures.1,

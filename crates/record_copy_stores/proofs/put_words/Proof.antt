@@ -6,10 +6,10 @@ use mathlib.Core.Path.{◌≡◌, refl, sym, ◌∙◌}
 use native.Mathlib.Omega.{arith}
 use borrow.Author.Rules.{rules}
 use Rattle.fields.specs.Number.{le}
-use Rattle.record_stores.proofs.Laid.{added_none, added_more, stored_one, offsets-none}
+use Rattle.record_stores.proofs.Laid.{added_none, added_more, stored_one, offsets_none}
 use Rattle.record_stores.specs.Added.{Added, stored}
 use Rattle.record_stores.specs.Stores.{offsets}
-use Rattle.record_alterations.specs.Altered.{recordWith}
+use Rattle.record_alterations.specs.Altered.{record_with}
 use Rattle.record_alterations.proofs.Words.{new_apart}
 use Rattle.record_copy_stores.proofs.put_words.Statement.{statement}
 use Rattle.record_copy_stores.proofs.put_words.Tie as tie
@@ -17,7 +17,7 @@ use Rattle.record_copy_stores.proofs.put_words.Tie as tie
 abbrev invariant-loop : tie.invariant-loop
 invariant-loop c r banks x base out₀ k j₀ o₀ out j o =
     (8 ≤ o) × (o ≡ 8 + 4 * ((o - 8) / 4)) × (o ≤ length r) × (length out ≡ length out₀)
-    × Added k j (stored base c (recordWith x r) (offsets 8 ((o - 8) / 4))) out₀ out × (j ≤ k + (o - 8) / 4)
+    × Added k j (stored base c (record_with x r) (offsets 8 ((o - 8) / 4))) out₀ out × (j ≤ k + (o - 8) / 4)
 
 abbrev decreases-loop : tie.decreases-loop
 decreases-loop c r banks x base out₀ k j₀ o₀ out j o = length r - o
@@ -30,7 +30,7 @@ loop-holds c =
       omega arith,
       s.requires.1.low,
       refl,
-      rw (offsets-none a.c.now (recordWith a.x a.r.now) a.base) (added_none a.k a.out.now),
+      rw (offsets_none a.c.now (record_with a.x a.r.now) a.base) (added_none a.k a.out.now),
       omega arith,
     )
 
@@ -71,7 +71,7 @@ loop-again c =
     let s = l.before.before.before.before in
     let a = s.args in
     let i = l.loop.invariant in
-    let N = recordWith a.x a.r.now in
+    let N = record_with a.x a.r.now in
     let new = q.put-differing.new.1.1.1.0 in
     let e = q.put-differing.ensures in
     let t = y.before.before.loop-test.true in

@@ -9,19 +9,19 @@ use native.Mathlib.Omega.{arith}
 use lib.Bits.{bit_xor}
 use lib.ListN.{length, drop, get_or, drop_of_length-le}
 use lib.Seq.{drop-cons}
-use Rattle.record_crc.specs.Crc.{withByte, withBytes, allOnes, crc32Of}
+use Rattle.record_crc.specs.Crc.{with_byte, with_bytes, all_ones, crc32_of}
 use Rattle.record_crc.proofs.crc32.Statement.{statement}
 use Rattle.record_crc.proofs.crc32.Tie as tie
 
 abbrev invariant-loop : tie.invariant-loop
-invariant-loop s t r₀ i₀ r i = (i ≤ length s) × (withBytes allOnes s ≡ withBytes r (drop i s))
+invariant-loop s t r₀ i₀ r i = (i ≤ length s) × (with_bytes all_ones s ≡ with_bytes r (drop i s))
 
 abbrev decreases-loop : tie.decreases-loop
 decreases-loop s t r₀ i₀ r i = length s - i
 
 -- a turn: one byte more
-turn : (s : List ℕ) (r q i : ℕ) → i < length s → q ≡ withByte r (get_or s i 0) → withBytes r (drop i s) ≡ withBytes q (drop (i + 1) s)
-unfolding withBytes
+turn : (s : List ℕ) (r q i : ℕ) → i < length s → q ≡ with_byte r (get_or s i 0) → with_bytes r (drop i s) ≡ with_bytes q (drop (i + 1) s)
+unfolding with_bytes
 turn s r q i h e = rw (e, add-one, drop-cons s i 0 h)
 
 loop-holds : tie.Need-loop-init invariant-loop decreases-loop
@@ -38,12 +38,12 @@ loop-again c =
     (omega arith, l.loop.invariant.1 ∙ turn s l.loop.r c.with_byte.result l.loop.i t.loop-test.true c.with_byte.ensures)
 
 returns : tie.Need-returns invariant-loop decreases-loop
-unfolding crc32Of withBytes
+unfolding crc32_of with_bytes
 returns c =
     let l = c.before in
     let s = l.before.before.before.args.s.now in
     let e : drop l.loop.i s ≡ [] = drop_of_length-le s c.loop-test.false in
-    ap (λ (x : ℕ). bit_xor x allOnes) (sym (l.loop.invariant.1 ∙ ap (withBytes l.loop.r) e))
+    ap (λ (x : ℕ). bit_xor x all_ones) (sym (l.loop.invariant.1 ∙ ap (with_bytes l.loop.r) e))
 
 pub crc32-spec : {M : Type 1} → statement M
 crc32-spec =

@@ -1,6 +1,6 @@
 -- `bank_entry_size_rule` meets its contract. Assumes nothing.
 use borrow.Author.Rules.{rules}
-use Rattle.record_layout.specs.Rules.{bankEntrySizeRule}
+use Rattle.record_layout.specs.Rules.{bank_entry_size_rule}
 use Rattle.record_header_rules.proofs.bank_entry_size_rule.Statement.{statement}
 use Rattle.record_header_rules.proofs.bank_entry_size_rule.Tie as tie
 
@@ -11,7 +11,7 @@ cast-result : tie.Need-overflow-cast-result
 cast-result c = search rules
 
 returns : tie.Need-returns
-unfolding bankEntrySizeRule
+unfolding bank_entry_size_rule
 returns c = rw c.read16.ensures
 
 pub bank-entry-size-rule-spec : {M : Type 1} → statement M

@@ -1,7 +1,7 @@
 -- `banks_named_rule` meets its contract. Assumes nothing.
 use borrow.Author.Tests.{le-ltb, lt-ltb}
 use borrow.Author.Rules.{rules}
-use Rattle.record_layout.specs.Rules.{banksNamedRule}
+use Rattle.record_layout.specs.Rules.{banks_named_rule}
 use Rattle.record_header_rules.proofs.banks_named_rule.Statement.{statement}
 use Rattle.record_header_rules.proofs.banks_named_rule.Tie as tie
 
@@ -15,7 +15,7 @@ cast-if1 : tie.Need-overflow-cast-if1
 cast-if1 c = search rules
 
 returns : tie.Need-returns
-unfolding banksNamedRule
+unfolding banks_named_rule
 returns c = rw (← c.before.before.bank-count.ensures, ← c.before.active.ensures, le-ltb _ _ c.if1.true)
 
 previous-requires : tie.Need-previous-requires
@@ -25,7 +25,7 @@ cast-result : tie.Need-overflow-cast-result
 cast-result c = search rules
 
 returns-2 : tie.Need-returns-2
-unfolding banksNamedRule
+unfolding banks_named_rule
 returns-2 c =
     let a = c.before.before in
     rw (← a.before.bank-count.ensures, ← a.active.ensures, lt-ltb _ _ c.before.if1.false, c.previous.ensures)

@@ -5,8 +5,8 @@ use native.Mathlib.Omega.{arith}
 use borrow.Author.Tests.{eq-eqb, ne_eqb}
 use borrow.Author.Rules.{rules}
 use Rattle.fields.specs.Number.{le}
-use Rattle.record_layout.specs.Layout.{headerSize, bankCount, imageCount, recordSize}
-use Rattle.record_layout.specs.Rules.{sizeRule}
+use Rattle.record_layout.specs.Layout.{header_size, bank_count, image_count, record_size}
+use Rattle.record_layout.specs.Rules.{size_rule}
 use Rattle.record_layout.proofs.Sizes.{at_most}
 use Rattle.record_header_rules.proofs.size_rule.Statement.{statement}
 use Rattle.record_header_rules.proofs.size_rule.Tie as tie
@@ -46,15 +46,15 @@ add-if1 c = omega (arith, product c)
 worked : (c : tie.After-entry-size)
     → let i = c.before.before in
     let r = i.before.before.before.args.r.now in
-    headerSize + i.image-count.result * c.entry-size.result ≡ recordSize (bankCount r) (imageCount r)
+    header_size + i.image-count.result * c.entry-size.result ≡ record_size (bank_count r) (image_count r)
 worked c = let b = c.before in rw (c.entry-size.ensures, b.bank-count.ensures, b.before.image-count.ensures)
 
 returns : tie.Need-returns
-unfolding sizeRule
+unfolding size_rule
 returns c = let e = c.before in rw (← e.before.before.before.size.ensures, ← worked e, ne_eqb _ _ c.if1.true)
 
 returns-2 : tie.Need-returns-2
-unfolding sizeRule
+unfolding size_rule
 returns-2 c = let e = c.before in rw (← e.before.before.before.size.ensures, ← worked e, eq-eqb _ _ c.if1.false)
 
 pub size-rule-spec : {M : Type 1} → statement M

@@ -1,8 +1,8 @@
 -- `bank_word` meets its contract. Assumes nothing.
 use native.Mathlib.Omega.{arith}
 use borrow.Author.Rules.{rules}
-use Rattle.record_layout.specs.Layout.{imageCount}
-use Rattle.record_layout.proofs.Sizes.{bank-in}
+use Rattle.record_layout.specs.Layout.{image_count}
+use Rattle.record_layout.proofs.Sizes.{bank_in}
 use Rattle.record_layout.proofs.bank_word.Statement.{statement}
 use Rattle.record_layout.proofs.bank_word.Tie as tie
 
@@ -25,7 +25,7 @@ read32-requires : tie.Need-read32-requires
 read32-requires c κs =
     let s = c.before.before in
     let a = s.args in
-    omega (arith, c.entry_at.ensures.0, bank-in a.r.now a.banks (imageCount a.r.now) a.i a.b s.requires.0 s.requires.1 s.requires.2)
+    omega (arith, c.entry_at.ensures.0, bank_in a.r.now a.banks (image_count a.r.now) a.i a.b s.requires.0 s.requires.1 s.requires.2)
 
 returns : tie.Need-returns
 returns c = rw (← c.before.entry_at.ensures.0) c.read32.ensures

@@ -5,7 +5,7 @@ use mathlib.Core.Path.{sym}
 use borrow.Author.Tests.{le-leb, lt-leb}
 use native.Mathlib.Omega.{arith}
 use borrow.Author.Rules.{rules}
-use Rattle.record_layout.specs.Layout.{recordOf}
+use Rattle.record_layout.specs.Layout.{record_of}
 use Rattle.record_layout.proofs.record_in.Statement.{statement}
 use Rattle.record_layout.proofs.record_in.Tie as tie
 
@@ -25,11 +25,11 @@ part-result-end : tie.Need-slice-bounds-result-end
 part-result-end c = search rules
 
 returns : tie.Need-returns
-unfolding recordOf
+unfolding record_of
 returns c = rw (← c.before.before.size.ensures, lt-leb _ _ c.before.if1.true)
 
 returns-2 : tie.Need-returns-2
-unfolding recordOf
+unfolding record_of
 returns-2 c =
     let r = c.before.before in
     rw (← r.size.ensures, le-leb _ _ c.before.if1.false) (sym (take_all r.size.result r.before.before.args.c.now (omega arith)))
@@ -44,7 +44,7 @@ part-result-end-2 : tie.Need-slice-bounds-result-end-2
 part-result-end-2 c = search rules
 
 returns-3 : tie.Need-returns-3
-unfolding recordOf
+unfolding record_of
 returns-3 c = rw (← c.before.before.before.size.ensures, le-leb _ _ c.before.before.if1.false, sub-zero)
 
 pub record-in-spec : {M : Type 1} → statement M

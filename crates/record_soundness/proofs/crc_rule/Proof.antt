@@ -4,7 +4,7 @@ use lib.ListN.{length, drop, length-drop}
 use lib.Seq.{take_all}
 use native.Mathlib.Omega.{arith}
 use borrow.Author.Rules.{rules}
-use Rattle.record_layout.specs.Rules.{crcRule}
+use Rattle.record_layout.specs.Rules.{crc_rule}
 use Rattle.record_soundness.proofs.crc_rule.Statement.{statement}
 use Rattle.record_soundness.proofs.crc_rule.Tie as tie
 
@@ -24,7 +24,7 @@ crc32-requires : tie.Need-crc32-requires
 crc32-requires c κs = search rules
 
 returns : tie.Need-returns
-unfolding crcRule
+unfolding crc_rule
 returns c =
     let s = c.before.before.before.before in
     let r = s.args.r.now in

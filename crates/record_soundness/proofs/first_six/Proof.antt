@@ -5,8 +5,8 @@ use lib.ListN.{take}
 use borrow.Author.Tests.{not-true, not-false}
 use borrow.Author.Rules.{rules}
 use Rattle.record_layout.specs.Rules.{rules}
-use Rattle.record_layout.specs.Sized.{firstSix}
-use Rattle.record_layout.proofs.Sound.{each-stop}
+use Rattle.record_layout.specs.Sized.{first_six}
+use Rattle.record_layout.proofs.Sound.{each_stop}
 use Rattle.record_soundness.proofs.first_six.Statement.{statement}
 use Rattle.record_soundness.proofs.first_six.Tie as tie
 
@@ -14,42 +14,42 @@ version-rule-requires : tie.Need-version-rule-requires
 version-rule-requires c κs = search rules
 
 returns : tie.Need-returns
-unfolding firstSix
-returns c = sym (each-stop 0 (take 6 rules) _ (sym c.before.version-rule.ensures ∙ not-true _ c.if1.taken))
+unfolding first_six
+returns c = sym (each_stop 0 (take 6 rules) _ (sym c.before.version-rule.ensures ∙ not-true _ c.if1.taken))
 
 bank-count-rule-requires : tie.Need-bank-count-rule-requires
 bank-count-rule-requires c κs = search rules
 
 returns-2 : tie.Need-returns-2
-unfolding firstSix
-returns-2 c = sym (each-stop 1 (take 6 rules) _ (sym c.before.bank-count-rule.ensures ∙ not-true _ c.if2.taken))
+unfolding first_six
+returns-2 c = sym (each_stop 1 (take 6 rules) _ (sym c.before.bank-count-rule.ensures ∙ not-true _ c.if2.taken))
 
 image-count-rule-requires : tie.Need-image-count-rule-requires
 image-count-rule-requires c κs = search rules
 
 returns-3 : tie.Need-returns-3
-unfolding firstSix
-returns-3 c = sym (each-stop 2 (take 6 rules) _ (sym c.before.image-count-rule.ensures ∙ not-true _ c.if3.taken))
+unfolding first_six
+returns-3 c = sym (each_stop 2 (take 6 rules) _ (sym c.before.image-count-rule.ensures ∙ not-true _ c.if3.taken))
 
 bank-entry-size-rule-requires : tie.Need-bank-entry-size-rule-requires
 bank-entry-size-rule-requires c κs = search rules
 
 returns-4 : tie.Need-returns-4
-unfolding firstSix
-returns-4 c = sym (each-stop 3 (take 6 rules) _ (sym c.before.bank-entry-size-rule.ensures ∙ not-true _ c.if4.taken))
+unfolding first_six
+returns-4 c = sym (each_stop 3 (take 6 rules) _ (sym c.before.bank-entry-size-rule.ensures ∙ not-true _ c.if4.taken))
 
 image-entry-size-rule-requires : tie.Need-image-entry-size-rule-requires
 image-entry-size-rule-requires c κs = search rules
 
 returns-5 : tie.Need-returns-5
-unfolding firstSix
-returns-5 c = sym (each-stop 4 (take 6 rules) _ (sym c.before.image-entry-size-rule.ensures ∙ not-true _ c.if5.taken))
+unfolding first_six
+returns-5 c = sym (each_stop 4 (take 6 rules) _ (sym c.before.image-entry-size-rule.ensures ∙ not-true _ c.if5.taken))
 
 size-rule-requires : tie.Need-size-rule-requires
 size-rule-requires c κs = search rules
 
 returns-6 : tie.Need-returns-6
-unfolding firstSix
+unfolding first_six
 returns-6 c =
     let e5 = c.before in
     let e4 = e5.before.before in

@@ -2,7 +2,7 @@
 use borrow.Author.Tests.{not-true, not-false}
 use mathlib.Core.Path.{sym, ◌∙◌}
 use borrow.Author.Rules.{rules}
-use Rattle.record_layout.proofs.Sound.{sound-split, sized_of}
+use Rattle.record_layout.proofs.Sound.{sound_split, sized_of}
 use Rattle.record_soundness.proofs.sound_record.Statement.{statement}
 use Rattle.record_soundness.proofs.sound_record.Tie as tie
 
@@ -12,7 +12,7 @@ first-six-requires c κs = search rules
 returns : tie.Need-returns
 returns c =
     let s = c.before.before.before in
-    rw (← sound-split s.args.r.now, sym c.before.first-six.ensures ∙ not-true _ c.if1.true)
+    rw (← sound_split s.args.r.now, sym c.before.first-six.ensures ∙ not-true _ c.if1.true)
 
 bank-count-requires : tie.Need-bank-count-requires
 bank-count-requires c κs = search rules
@@ -30,7 +30,7 @@ returns-2 : tie.Need-returns-2
 returns-2 c =
     let e1 = c.before.before.before in
     let s = e1.before.before.before in
-    rw (← sound-split s.args.r.now, sym e1.before.first-six.ensures ∙ not-false _ e1.if1.false) c.last-eight.ensures
+    rw (← sound_split s.args.r.now, sym e1.before.first-six.ensures ∙ not-false _ e1.if1.false) c.last-eight.ensures
 
 pub sound-record-spec : {M : Type 1} → statement M
 sound-record-spec =

@@ -6,10 +6,10 @@ use Prim.Native.Nat.{ℕ, ◌-◌}
 use mathlib.Core.Path.{sym}
 use native.Mathlib.Omega.{arith}
 use borrow.Author.Tests.{eq-eqb, ne_eqb}
-use Rattle.record_layout.proofs.Below.{Passed, passed_none, passed-more, passed-stop, passed-all}
+use Rattle.record_layout.proofs.Below.{Passed, passed_none, passed_more, passed_stop, passed_all}
 use Rattle.record_layout.proofs.Sizes.{by_field}
 use Rattle.record_layout.specs.Layout.{accepted}
-use Rattle.record_layout.specs.Rules.{allAccepted}
+use Rattle.record_layout.specs.Rules.{all_accepted}
 use Rattle.record_state_rules.proofs.all_accepted.Statement.{statement}
 use Rattle.record_state_rules.proofs.all_accepted.Tie as tie
 
@@ -30,15 +30,15 @@ accepted-word-requires c κs =
     let l = c.before in
     let s = l.before.before in
     let a = s.args in
-    (by_field a.r.now a.banks a.images s.requires.0, omega (arith, s.requires.0.images-is, c.loop-test.true), s.requires.1)
+    (by_field a.r.now a.banks a.images s.requires.0, omega (arith, s.requires.0.images_is, c.loop-test.true), s.requires.1)
 
 returns : tie.Need-returns invariant-loop decreases-loop
-unfolding allAccepted
+unfolding all_accepted
 returns c =
     let t = c.before.before in
     let l = t.before in
-    rw l.before.before.requires.0.images-is
-    (sym (passed-stop l.loop.invariant t.loop-test.true (rw (← c.before.accepted-word.ensures) (ne_eqb _ _ c.if1.true))))
+    rw l.before.before.requires.0.images_is
+    (sym (passed_stop l.loop.invariant t.loop-test.true (rw (← c.before.accepted-word.ensures) (ne_eqb _ _ c.if1.true))))
 
 add-i : tie.Need-overflow-add-i invariant-loop decreases-loop
 add-i c = omega arith
@@ -49,11 +49,11 @@ loop-less c = omega arith
 loop-again : tie.Need-loop-preserved invariant-loop decreases-loop
 loop-again c =
     let t = c.before.before in
-    passed-more t.before.loop.invariant t.loop-test.true (rw (← c.before.accepted-word.ensures) (eq-eqb _ _ c.if1.false))
+    passed_more t.before.loop.invariant t.loop-test.true (rw (← c.before.accepted-word.ensures) (eq-eqb _ _ c.if1.false))
 
 returns-2 : tie.Need-returns-2 invariant-loop decreases-loop
-unfolding allAccepted
-returns-2 c = let l = c.before in rw l.before.before.requires.0.images-is (sym (passed-all l.loop.invariant c.loop-test.false))
+unfolding all_accepted
+returns-2 c = let l = c.before in rw l.before.before.requires.0.images_is (sym (passed_all l.loop.invariant c.loop-test.false))
 
 pub all-accepted-spec : {M : Type 1} → statement M
 all-accepted-spec =

@@ -3,12 +3,12 @@ use mathlib.Core.Path.{sym, ◌∙◌}
 use mathlib.Core.List.{◌++◌}
 use native.Mathlib.Omega.{arith}
 use borrow.Author.Rules.{rules}
-use Rattle.record_layout.specs.Layout.{copySize, copy0, copy1}
-use Rattle.record_layout.proofs.Sound.{sound-sized, sound-long}
+use Rattle.record_layout.specs.Layout.{copy_size, copy0, copy1}
+use Rattle.record_layout.proofs.Sound.{sound_sized, sound_long}
 use Rattle.record_stores.specs.Stores.{plan}
 use Rattle.record_stores.proofs.Laid.{added_then}
-use Rattle.record_alterations.specs.Altered.{recordWith, Alterable}
-use Rattle.record_store_lists.proofs.Listing.{at_front, at-front-none, stores-none, stores_both}
+use Rattle.record_alterations.specs.Altered.{record_with, Alterable}
+use Rattle.record_store_lists.proofs.Listing.{at_front, at_front_none, stores_none, stores_both}
 use Rattle.record_store_lists.proofs.list_change.Statement.{statement}
 use Rattle.record_store_lists.proofs.list_change.Tie as tie
 
@@ -16,7 +16,7 @@ held-record-requires : tie.Need-held-record-requires
 held-record-requires c κs = search rules
 
 bank-count-requires : tie.Need-bank-count-requires
-bank-count-requires c κs = sound-long c.held-record.result.now c.held-record.ensures.1
+bank-count-requires c κs = sound_long c.held-record.result.now c.held-record.ensures.1
 
 -- the alteration can be made in the record held
 can : (h : tie.After-bank-count)
@@ -24,7 +24,7 @@ can : (h : tie.After-bank-count)
 can h =
     let e = h.before.held-record.ensures in
     let s = h.before.before.before.before in
-    rw h.bank-count.ensures (record { sized = sound-sized h.before.held-record.result.now e.1; within = rw e.0 s.requires.1 })
+    rw h.bank-count.ensures (record { sized = sound_sized h.before.held-record.result.now e.1; within = rw e.0 s.requires.1 })
 
 unchanged-requires : tie.Need-unchanged-requires
 unchanged-requires c κs = (can c, c.before.held-record.ensures.1)
@@ -35,8 +35,8 @@ returns c =
     let h = u.before.before in
     let s = h.before.before.before in
     let a = s.args in
-    at-front-none _ a.out.now
-    (stores-none a.x a.area.now h.held-record.result.now h.held-record.ensures.0 s.requires.0.equal
+    at_front_none _ a.out.now
+    (stores_none a.x a.area.now h.held-record.result.now h.held-record.ensures.0 s.requires.0.equal
     (sym c.if1.true ∙ u.unchanged.ensures))
 
 new-crc-requires : tie.Need-new-crc-requires
@@ -77,11 +77,11 @@ returns-2 c =
     let a = s.args in
     let A = a.area.now in
     let R = h.held-record.result.now in
-    let N = recordWith a.x R in
+    let N = record_with a.x R in
     let f = q.put_copy.new.1.1.1.1.1.1.0 in
     let g = q2.put-copy2.new.1.1.1.1.1.1.0 in
     let one = plan 0 (copy0 A) N in
-    let two = plan copySize (copy1 A) N in
+    let two = plan copy_size (copy1 A) N in
     rw (stores_both a.x A R h.held-record.ensures.0 s.requires.0.equal (sym i.if1.false ∙ u.unchanged.ensures))
     (at_front q2.put-copy2.result (one ++ two) a.out.now g
     (added_then 0 q.put_copy.result q2.put-copy2.result one two a.out.now f g q.put_copy.ensures.0 q2.put-copy2.ensures.0))

@@ -1,14 +1,14 @@
 -- `put_differing` meets its contract. Assumes nothing.
 use native.Mathlib.Omega.{arith}
 use borrow.Author.Rules.{rules}
-use Rattle.record_stores.proofs.Laid.{added_none, word-equal, word-differs}
+use Rattle.record_stores.proofs.Laid.{added_none, word_equal, word_differs}
 use Rattle.record_stores.proofs.put_differing.Statement.{statement}
 use Rattle.record_stores.proofs.put_differing.Tie as tie
 
 returns : tie.Need-returns
 returns c =
     let a = c.before.before.args in
-    (rw (word-equal a.base a.o a.old a.w c.if1.true) (added_none a.k a.out.now), omega arith)
+    (rw (word_equal a.base a.o a.old a.w c.if1.true) (added_none a.k a.out.now), omega arith)
 
 cast-put-pair : tie.Need-overflow-cast-put-pair
 cast-put-pair c = search rules
@@ -27,7 +27,7 @@ returns-2 c =
     let p = c.before.before in
     let g = p.before.before in
     let a = g.before.before.args in
-    (rw (word-differs a.base a.o a.old a.w g.if1.false) p.put-pair.ensures, omega (arith, p.put-pair.ensures.count))
+    (rw (word_differs a.base a.o a.old a.w g.if1.false) p.put-pair.ensures, omega (arith, p.put-pair.ensures.count))
 
 pub put-differing-spec : {M : Type 1} → statement M
 put-differing-spec =

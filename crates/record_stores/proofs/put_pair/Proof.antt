@@ -3,7 +3,7 @@ use lib.ListN.{length-set}
 use mathlib.Core.Path.{refl}
 use native.Mathlib.Omega.{arith}
 use borrow.Author.Rules.{rules}
-use Rattle.record_stores.proofs.Laid.{added-one}
+use Rattle.record_stores.proofs.Laid.{added_one}
 use Rattle.record_stores.proofs.put_pair.Statement.{statement}
 use Rattle.record_stores.proofs.put_pair.Tie as tie
 
@@ -35,7 +35,7 @@ same_length : tie.Need-same-length
 same_length c = search rules
 
 returns : tie.Need-returns
-returns c = let a = c.args in added-one a.k a.out.now _ a.o a.w c.requires refl
+returns c = let a = c.args in added_one a.k a.out.now _ a.o a.w c.requires refl
 
 pub put-pair-spec : {M : Type 1} → statement M
 put-pair-spec =

@@ -1,15 +1,15 @@
 -- `refused_line` meets its contract. Assumes nothing.
 use borrow.Author.Rules.{rules}
-use Rattle.report.specs.Report.{refusedLine}
+use Rattle.report.specs.Report.{refused_line}
 use Rattle.report.proofs.refused_line.Statement.{statement}
 use Rattle.report.proofs.refused_line.Tie as tie
 
 line-of-one-requires : tie.Need-line-of-one-requires
-unfolding refusedLine
+unfolding refused_line
 line-of-one-requires c κs = rw c.number.ensures c.before.before.before.before.requires
 
 returns : tie.Need-returns
-unfolding refusedLine
+unfolding refused_line
 returns c =
     let l = c.before.before in
     rw (← l.before.number.ensures) l.line-of-one.ensures

@@ -2,22 +2,22 @@
 use Prim.Native.Nat.{◌-◌}
 use native.Mathlib.Omega.{arith}
 use borrow.Author.Rules.{rules}
-use Rattle.report_lines.proofs.Known.{few-images}
-use Rattle.record_layout.specs.Layout.{imageCount}
-use Rattle.record_layout.proofs.Sound.{sound-long}
-use Rattle.report_lines.specs.Lines.{imageLines}
-use Rattle.report_lines.proofs.Rows.{Rows, rows_none, rows-room, rows_more, rows_all}
+use Rattle.report_lines.proofs.Known.{few_images}
+use Rattle.record_layout.specs.Layout.{image_count}
+use Rattle.record_layout.proofs.Sound.{sound_long}
+use Rattle.report_lines.specs.Lines.{image_lines}
+use Rattle.report_lines.proofs.Rows.{Rows, rows_none, rows_room, rows_more, rows_all}
 use Rattle.report_lines.proofs.all_images.Statement.{statement}
 use Rattle.report_lines.proofs.all_images.Tie as tie
 
 abbrev invariant-loop : tie.invariant-loop
-invariant-loop out₀ k r images n₀ i₀ out n i = Rows (imageLines r) (imageCount r) k out₀ images n i out
+invariant-loop out₀ k r images n₀ i₀ out n i = Rows (image_lines r) (image_count r) k out₀ images n i out
 
 abbrev decreases-loop : tie.decreases-loop
 decreases-loop out₀ k r images n₀ i₀ out n i = images - i
 
 image-count-requires : tie.Need-image-count-requires invariant-loop decreases-loop
-image-count-requires c κs = let s = c.before.before in sound-long s.args.r.now s.requires.0
+image-count-requires c κs = let s = c.before.before in sound_long s.args.r.now s.requires.0
 
 loop-holds : tie.Need-loop-init invariant-loop decreases-loop
 loop-holds c = rows_none c.image-count.ensures c.before.before.before.requires.1
@@ -27,13 +27,13 @@ image-lines-requires c κs =
     let l = c.before.before in
     let s = l.before.before.before.before in
     let t = c.before.loop-test.true in
-    (s.requires.0, omega (arith, l.loop.invariant.limit, t), rows-room l.loop.invariant s.requires.1 t)
+    (s.requires.0, omega (arith, l.loop.invariant.limit, t), rows_room l.loop.invariant s.requires.1 t)
 
 add-i : tie.Need-overflow-add-i invariant-loop decreases-loop
 add-i c =
     let l = c.before.before.before.before.before in
     let s = l.before.before.before.before in
-    omega (arith, few-images s.args.r.now s.requires.0, l.loop.invariant.limit)
+    omega (arith, few_images s.args.r.now s.requires.0, l.loop.invariant.limit)
 
 loop-less : tie.Need-loop-smaller invariant-loop decreases-loop
 loop-less c = search rules

@@ -2,22 +2,22 @@
 use Prim.Native.Nat.{◌-◌}
 use native.Mathlib.Omega.{arith}
 use borrow.Author.Rules.{rules}
-use Rattle.report_lines.proofs.Known.{few-banks}
-use Rattle.record_layout.specs.Layout.{bankCount}
-use Rattle.record_layout.proofs.Sound.{sound-long}
-use Rattle.report_lines.specs.Lines.{bankLine}
-use Rattle.report_lines.proofs.Rows.{Rows, rows_none, rows-room, rows_more, rows_all}
+use Rattle.report_lines.proofs.Known.{few_banks}
+use Rattle.record_layout.specs.Layout.{bank_count}
+use Rattle.record_layout.proofs.Sound.{sound_long}
+use Rattle.report_lines.specs.Lines.{bank_line}
+use Rattle.report_lines.proofs.Rows.{Rows, rows_none, rows_room, rows_more, rows_all}
 use Rattle.report_lines.proofs.bank_lines.Statement.{statement}
 use Rattle.report_lines.proofs.bank_lines.Tie as tie
 
 abbrev invariant-loop : tie.invariant-loop
-invariant-loop out₀ k r banks n₀ b₀ out n b = Rows (bankLine r) (bankCount r) k out₀ banks n b out
+invariant-loop out₀ k r banks n₀ b₀ out n b = Rows (bank_line r) (bank_count r) k out₀ banks n b out
 
 abbrev decreases-loop : tie.decreases-loop
 decreases-loop out₀ k r banks n₀ b₀ out n b = banks - b
 
 bank-count-requires : tie.Need-bank-count-requires invariant-loop decreases-loop
-bank-count-requires c κs = let s = c.before.before in sound-long s.args.r.now s.requires.0
+bank-count-requires c κs = let s = c.before.before in sound_long s.args.r.now s.requires.0
 
 loop-holds : tie.Need-loop-init invariant-loop decreases-loop
 loop-holds c = rows_none c.bank-count.ensures c.before.before.before.requires.1
@@ -27,13 +27,13 @@ bank-line-requires c κs =
     let l = c.before.before in
     let s = l.before.before.before.before in
     let t = c.before.loop-test.true in
-    (s.requires.0, omega (arith, l.loop.invariant.limit, t), rows-room l.loop.invariant s.requires.1 t)
+    (s.requires.0, omega (arith, l.loop.invariant.limit, t), rows_room l.loop.invariant s.requires.1 t)
 
 add-b : tie.Need-overflow-add-b invariant-loop decreases-loop
 add-b c =
     let l = c.before.before.before.before.before in
     let s = l.before.before.before.before in
-    omega (arith, few-banks s.args.r.now s.requires.0, l.loop.invariant.limit)
+    omega (arith, few_banks s.args.r.now s.requires.0, l.loop.invariant.limit)
 
 loop-less : tie.Need-loop-smaller invariant-loop decreases-loop
 loop-less c = search rules

@@ -2,12 +2,12 @@
 use Prim.Native.Nat.{ℕ}
 use mathlib.Core.List.{List, [], ◌∷◌, ◌++◌}
 use borrow.Author.Rules.{rules}
-use Rattle.record_layout.proofs.Sound.{sound-long}
+use Rattle.record_layout.proofs.Sound.{sound_long}
 use Rattle.record_layout.specs.Layout.{active, previous, size}
 use Rattle.report_text.specs.Text.{ascii, line}
-use Rattle.report_lines.specs.Lines.{headLines}
+use Rattle.report_lines.specs.Lines.{head_lines}
 use Rattle.report_text.specs.Wrote.{Room, Wrote}
-use Rattle.report_text.proofs.Writing.{wrote_then, room-first, room-then}
+use Rattle.report_text.proofs.Writing.{wrote_then, room_first, room_then}
 use Rattle.report_lines.proofs.head_lines.Statement.{statement}
 use Rattle.report_lines.proofs.head_lines.Tie as tie
 
@@ -28,14 +28,14 @@ slice-aggregate-line-of-two : tie.Need-slice-aggregate-line-of-two
 slice-aggregate-line-of-two c = search rules
 
 size-requires : tie.Need-size-requires
-size-requires c κs = let s = c.before.before.before.before in sound-long s.args.r.now s.requires.0
+size-requires c κs = let s = c.before.before.before.before in sound_long s.args.r.now s.requires.0
 
 line-of-two-requires : tie.Need-line-of-two-requires
-unfolding headLines
+unfolding head_lines
 line-of-two-requires c κs =
     let s = c.before.before.before.before.before in
     let a = s.args in
-    rw c.size.ensures (room-first 0 (recordLine a.copy a.r.now) (namedLines a.r.now) a.out.now s.requires.1)
+    rw c.size.ensures (room_first 0 (recordLine a.copy a.r.now) (namedLines a.r.now) a.out.now s.requires.1)
 
 -- the first line is written, and there is room for the others
 first : (p : tie.After-line-of-two)
@@ -44,29 +44,29 @@ first p = rw (← p.before.size.ensures) p.line-of-two.ensures
 
 behind-first : (p : tie.After-line-of-two)
     → let a = p.before.before.before.before.before.before.args in Room p.line-of-two.result (namedLines a.r.now) p.line-of-two.new.0
-unfolding headLines
+unfolding head_lines
 behind-first p =
     let s = p.before.before.before.before.before.before in
     let a = s.args in
-    room-then 0 p.line-of-two.result (recordLine a.copy a.r.now) (namedLines a.r.now) a.out.now p.line-of-two.new.0 s.requires.1 (first p)
+    room_then 0 p.line-of-two.result (recordLine a.copy a.r.now) (namedLines a.r.now) a.out.now p.line-of-two.new.0 s.requires.1 (first p)
 
 slice-aggregate-line-of-one : tie.Need-slice-aggregate-line-of-one
 slice-aggregate-line-of-one c = search rules
 
 active-requires : tie.Need-active-requires
-active-requires c κs = let s = c.before.before.before.before.before.before.before.before.before.before in sound-long s.args.r.now s.requires.0
+active-requires c κs = let s = c.before.before.before.before.before.before.before.before.before.before in sound_long s.args.r.now s.requires.0
 
 line-of-one-requires : tie.Need-line-of-one-requires
 line-of-one-requires c κs =
     let p = c.before.before.before.before.before in
     let a = p.before.before.before.before.before.before.args in
-    rw c.active.ensures (room-first p.line-of-two.result (activeLine a.r.now) (previousLine a.r.now) p.line-of-two.new.0 (behind-first p))
+    rw c.active.ensures (room_first p.line-of-two.result (activeLine a.r.now) (previousLine a.r.now) p.line-of-two.new.0 (behind-first p))
 
 slice-aggregate-line-of-one-2 : tie.Need-slice-aggregate-line-of-one-2
 slice-aggregate-line-of-one-2 c = search rules
 
 previous-requires : tie.Need-previous-requires
-previous-requires c κs = let s = c.before.before.before.before.before.before.before.before.before.before.before.before.before.before.before.before in sound-long s.args.r.now s.requires.0
+previous-requires c κs = let s = c.before.before.before.before.before.before.before.before.before.before.before.before.before.before.before.before in sound_long s.args.r.now s.requires.0
 
 line-of-one-requires-2 : tie.Need-line-of-one-requires-2
 line-of-one-requires-2 c κs =
@@ -74,14 +74,14 @@ line-of-one-requires-2 c κs =
     let p = q.before.before.before.before.before.before in
     let a = p.before.before.before.before.before.before.args in
     rw c.previous.ensures
-    (room-then p.line-of-two.result q.line-of-one.result (activeLine a.r.now) (previousLine a.r.now) p.line-of-two.new.0 q.line-of-one.new.0
+    (room_then p.line-of-two.result q.line-of-one.result (activeLine a.r.now) (previousLine a.r.now) p.line-of-two.new.0 q.line-of-one.new.0
     (behind-first p) (rw (← q.before.active.ensures) q.line-of-one.ensures))
 
 same_length : tie.Need-same-length
 same_length c = search rules
 
 returns : tie.Need-returns
-unfolding headLines
+unfolding head_lines
 returns c =
     let l = c.before.before in
     let q = l.before.before.before.before.before.before in

@@ -8,9 +8,9 @@ use lib.ListN.{length}
 use borrow.Author.Rules.{rules}
 use borrow.Fn.Kinds.{In}
 use borrow.Fn.PlainCycle.{Measures, is, falls, and}
-use Rattle.report_text.specs.Text.{digitOf, decimal}
-use Rattle.report_text.proofs.Digits.{decimal-low, decimal-more}
-use Rattle.report_text.proofs.Writing.{room-first, room-left, and_then}
+use Rattle.report_text.specs.Text.{digit_of, decimal}
+use Rattle.report_text.proofs.Digits.{decimal_low, decimal_more}
+use Rattle.report_text.proofs.Writing.{room_first, room_left, and_then}
 use Rattle.report_text.proofs.put_decimal.Reads as put-decimal
 use Rattle.report_text.proofs.put_decimal.Kinds as put-decimal-kinds
 use Rattle.report_text.proofs.+put_decimal.Lts-put_decimal as put-decimal-lts
@@ -36,7 +36,7 @@ put-byte-requires : (t : ℕ) → put-decimal-lts.Need-put-byte-requires (with t
 put-byte-requires t c κs =
     let g = c.before.before in
     let s = g.before.before in
-    omega (arith, ap length (decimal-low s.args.x g.if1.true))
+    omega (arith, ap length (decimal_low s.args.x g.if1.true))
 
 returns : (t : ℕ) → put-decimal-lts.Need-returns (with t) (put-decimal-at t) put-decimal.Post
 returns t c =
@@ -44,14 +44,14 @@ returns t c =
     let d = p.before in
     let g = d.before.before in
     let s = g.before.before in
-    rw (decimal-low s.args.x g.if1.true, ← d.digit.ensures) p.put_byte.ensures
+    rw (decimal_low s.args.x g.if1.true, ← d.digit.ensures) p.put_byte.ensures
 
 put-decimal-requires : (t : ℕ) → put-decimal-lts.Need-put-decimal-requires (with t) (put-decimal-at t) put-decimal.Post
 put-decimal-requires t c κs =
     let g = c.before in
     let s = g.before.before in
     let a = s.args in
-    (omega (arith, s.requires.0), room-first a.k (decimal (a.x / 10)) (digitOf (a.x % 10) ∷ []) a.out.now (rw (decimal-more a.x g.if1.false) at s.requires.1))
+    (omega (arith, s.requires.0), room_first a.k (decimal (a.x / 10)) (digit_of (a.x % 10) ∷ []) a.out.now (rw (decimal_more a.x g.if1.false) at s.requires.1))
 
 put-byte-requires-2 : (t : ℕ) → put-decimal-lts.Need-put-byte-requires-2 (with t) (put-decimal-at t) put-decimal.Post
 put-byte-requires-2 t c κs =
@@ -59,7 +59,7 @@ put-byte-requires-2 t c κs =
     let g = q.before.before in
     let s = g.before.before in
     let a = s.args in
-    room-left (c.digit2.result ∷ []) (rw (c.digit2.ensures, ← decimal-more a.x g.if1.false) s.requires.1) q.put-decimal.ensures
+    room_left (c.digit2.result ∷ []) (rw (c.digit2.ensures, ← decimal_more a.x g.if1.false) s.requires.1) q.put-decimal.ensures
 
 returns-2 : (t : ℕ) → put-decimal-lts.Need-returns-2 (with t) (put-decimal-at t) put-decimal.Post
 returns-2 t c =
@@ -69,8 +69,8 @@ returns-2 t c =
     let g = q.before.before in
     let s = g.before.before in
     let a = s.args in
-    rw (decimal-more a.x g.if1.false, ← d.digit2.ensures)
-    (and_then (rw (d.digit2.ensures, ← decimal-more a.x g.if1.false) s.requires.1) q.put-decimal.ensures p.put-byte2.ensures)
+    rw (decimal_more a.x g.if1.false, ← d.digit2.ensures)
+    (and_then (rw (d.digit2.ensures, ← decimal_more a.x g.if1.false) s.requires.1) q.put-decimal.ensures p.put-byte2.ensures)
 
 pub +put-decimal-spec : {M : Type 1} → statement M
 +put-decimal-spec =

@@ -2,7 +2,7 @@
 use mathlib.Core.List.{[], ◌∷◌}
 use borrow.Author.Rules.{rules}
 use Rattle.report_text.specs.Text.{numbers, line}
-use Rattle.report_text.proofs.Writing.{room-first, room-left, and_then}
+use Rattle.report_text.proofs.Writing.{room_first, room_left, and_then}
 use Rattle.report_text.proofs.line_of_one.Statement.{statement}
 use Rattle.report_text.proofs.line_of_one.Tie as tie
 
@@ -10,14 +10,14 @@ put-word-requires : tie.Need-put-word-requires
 unfolding line
 put-word-requires c κs =
     let s = c.before.before.before in
-    room-first s.args.k s.args.word.now (numbers (s.args.x ∷ [])) s.args.out.now s.requires
+    room_first s.args.k s.args.word.now (numbers (s.args.x ∷ [])) s.args.out.now s.requires
 
 put-last-requires : tie.Need-put-last-requires
 unfolding line
 put-last-requires c κs =
     let p = c.before.before.before in
     let s = p.before.before.before.before in
-    room-left (numbers (s.args.x ∷ [])) s.requires p.put_word.ensures
+    room_left (numbers (s.args.x ∷ [])) s.requires p.put_word.ensures
 
 returns : tie.Need-returns
 unfolding line

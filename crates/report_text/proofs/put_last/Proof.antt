@@ -1,8 +1,8 @@
 -- `put_last` meets its contract. Assumes nothing.
 use mathlib.Core.List.{[], ◌∷◌}
 use borrow.Author.Rules.{rules}
-use Rattle.report_text.specs.Text.{tab, lineFeed, decimal, numbers}
-use Rattle.report_text.proofs.Writing.{room-first, room-left, and_then}
+use Rattle.report_text.specs.Text.{tab, line_feed, decimal, numbers}
+use Rattle.report_text.proofs.Writing.{room_first, room_left, and_then}
 use Rattle.report_text.proofs.put_last.Statement.{statement}
 use Rattle.report_text.proofs.put_last.Tie as tie
 
@@ -10,11 +10,11 @@ put-number-requires : tie.Need-put-number-requires
 unfolding numbers
 put-number-requires c κs =
     let s = c.before.before in
-    room-first s.args.k (tab ∷ decimal s.args.x) (lineFeed ∷ []) s.args.out.now s.requires
+    room_first s.args.k (tab ∷ decimal s.args.x) (line_feed ∷ []) s.args.out.now s.requires
 
 put-byte-requires : tie.Need-put-byte-requires
 unfolding numbers
-put-byte-requires c κs = let p = c.before.before.before in room-left (lineFeed ∷ []) p.before.before.before.requires p.put-number.ensures
+put-byte-requires c κs = let p = c.before.before.before in room_left (line_feed ∷ []) p.before.before.before.requires p.put-number.ensures
 
 returns : tie.Need-returns
 unfolding numbers

@@ -4,7 +4,7 @@ use Prim.Native.Nat.{◌≤◌}
 use lib.ListN.{length}
 use lib.Seq.{length-take-le}
 use borrow.Author.Rules.{rules}
-use Rattle.report.proofs.Whole.{report-within}
+use Rattle.report.proofs.Whole.{report_within}
 use Rattle.test_report.proofs.print.Statement.{statement}
 use Rattle.test_report.proofs.print.Tie as tie
 
@@ -28,7 +28,7 @@ report-requires c κs = search rules
 
 -- the report lies in the slice
 within : (c : tie.After-report) → c.report.result ≤ length c.report.new.1.0
-within c = report-within _ _ c.report.new.1.0 c.report.result c.report.ensures
+within c = report_within _ _ c.report.new.1.0 c.report.result c.report.ensures
 
 array-share-prefix-text : tie.Need-array-share-prefix-text
 array-share-prefix-text c = within c.before

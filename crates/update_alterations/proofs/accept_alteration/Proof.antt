@@ -1,6 +1,6 @@
 -- `accept_alteration` meets its contract. Assumes nothing.
 use borrow.Author.Rules.{rules}
-use Rattle.update_alterations.proofs.Making.{accept-makes}
+use Rattle.update_alterations.proofs.Making.{accept_makes}
 use Rattle.update_alterations.proofs.accept_alteration.Statement.{statement}
 use Rattle.update_alterations.proofs.accept_alteration.Tie as tie
 
@@ -20,7 +20,7 @@ returns c =
     let k = x.before in
     let s = k.before in
     rw (x.unaltered.ensures.is, w.accept-states.ensures)
-    (accept-makes s.args.r.now s.requires.0 (λ i. (k.shared-slice-known.given i).fits) s.args.i s.requires.1)
+    (accept_makes s.args.r.now s.requires.0 (λ i. (k.shared-slice-known.given i).fits) s.args.i s.requires.1)
 
 pub accept-alteration-spec : {M : Type 1} → statement M
 accept-alteration-spec = tie.close (tie.spec unaltered-requires accept-states-requires cast-x returns)

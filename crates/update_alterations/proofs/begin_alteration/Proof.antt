@@ -1,7 +1,7 @@
 -- `begin_alteration` meets its contract. Assumes nothing.
 use borrow.Author.Rules.{rules}
-use Rattle.record_layout.proofs.Sound.{sound-long}
-use Rattle.update_alterations.proofs.Making.{begin-makes}
+use Rattle.record_layout.proofs.Sound.{sound_long}
+use Rattle.update_alterations.proofs.Making.{begin_makes}
 use Rattle.update_alterations.proofs.begin_alteration.Statement.{statement}
 use Rattle.update_alterations.proofs.begin_alteration.Tie as tie
 
@@ -9,7 +9,7 @@ update-bank-requires : tie.Need-update-bank-requires
 update-bank-requires c κs = search rules
 
 image-count-requires : tie.Need-image-count-requires
-image-count-requires c κs = let s = c.before.before in sound-long s.args.r.now s.requires
+image-count-requires c κs = let s = c.before.before in sound_long s.args.r.now s.requires
 
 unaltered-requires : tie.Need-unaltered-requires
 unaltered-requires c κs = search rules
@@ -25,7 +25,7 @@ returns c =
     let k = u.before in
     let s = k.before in
     rw (x.unaltered.ensures.is, c.states-with.ensures, n.image-count.ensures, u.update-bank.ensures.0)
-    (begin-makes s.args.r.now s.requires (λ i. (k.shared-slice-known.given i).fits))
+    (begin_makes s.args.r.now s.requires (λ i. (k.shared-slice-known.given i).fits))
 
 pub begin-alteration-spec : {M : Type 1} → statement M
 begin-alteration-spec =

@@ -1,6 +1,6 @@
 -- `commit_alteration` meets its contract. Assumes nothing.
 use borrow.Author.Rules.{rules}
-use Rattle.update_alterations.proofs.Making.{commit-makes}
+use Rattle.update_alterations.proofs.Making.{commit_makes}
 use Rattle.update_alterations.proofs.commit_alteration.Statement.{statement}
 use Rattle.update_alterations.proofs.commit_alteration.Tie as tie
 
@@ -20,7 +20,7 @@ returns c =
     let k = x.before in
     let s = k.before in
     rw (x.unaltered.ensures.is, u.update-bank.ensures.0, c.flag_for.ensures)
-    (commit-makes s.args.r.now s.requires.0 (λ i. (k.shared-slice-known.given i).fits) s.args.i s.args.request s.requires.1)
+    (commit_makes s.args.r.now s.requires.0 (λ i. (k.shared-slice-known.given i).fits) s.args.i s.args.request s.requires.1)
 
 pub commit-alteration-spec : {M : Type 1} → statement M
 commit-alteration-spec = tie.close (tie.spec unaltered-requires update-bank-requires flag-for-requires returns)

@@ -1,8 +1,8 @@
 -- `end_alteration` meets its contract. Assumes nothing.
 use borrow.Author.Rules.{rules}
 use native.Mathlib.Omega.{arith}
-use Rattle.update_changes.proofs.Banks.{banks-few}
-use Rattle.update_alterations.proofs.Making.{end-makes}
+use Rattle.update_changes.proofs.Banks.{banks_few}
+use Rattle.update_alterations.proofs.Making.{end_makes}
 use Rattle.update_alterations.proofs.end_alteration.Statement.{statement}
 use Rattle.update_alterations.proofs.end_alteration.Tie as tie
 
@@ -19,7 +19,7 @@ cast-x : tie.Need-overflow-cast-x
 cast-x c =
     let u = c.before.before in
     let s = u.before.before in
-    omega (arith, u.update-bank.ensures.1, (banks-few s.args.r.now s.requires).1)
+    omega (arith, u.update-bank.ensures.1, (banks_few s.args.r.now s.requires).1)
 
 states-with-requires : tie.Need-states-with-requires
 states-with-requires c κs = search rules
@@ -32,7 +32,7 @@ returns c =
     let k = u.before in
     let s = k.before in
     rw (x.unaltered.ensures.is, c.states-with.ensures, t.end-state.ensures, u.update-bank.ensures.0)
-    (end-makes s.args.r.now s.requires (λ i. (k.shared-slice-known.given i).fits))
+    (end_makes s.args.r.now s.requires (λ i. (k.shared-slice-known.given i).fits))
 
 pub end-alteration-spec : {M : Type 1} → statement M
 end-alteration-spec =

@@ -1,15 +1,15 @@
 -- `end_state` meets its contract. Assumes nothing.
 use mathlib.Core.Path.{sym, ◌∙◌}
-use Rattle.record_layout.proofs.Sound.{sound-long}
+use Rattle.record_layout.proofs.Sound.{sound_long}
 use Rattle.update_changes.proofs.Banks.{sized}
 use Rattle.update_alterations.proofs.end_state.Statement.{statement}
 use Rattle.update_alterations.proofs.end_state.Tie as tie
 
 bank-count-requires : tie.Need-bank-count-requires
-bank-count-requires c κs = let s = c.before in sound-long s.args.r.now s.requires.0
+bank-count-requires c κs = let s = c.before in sound_long s.args.r.now s.requires.0
 
 image-count-requires : tie.Need-image-count-requires
-image-count-requires c κs = let s = c.before.before in sound-long s.args.r.now s.requires.0
+image-count-requires c κs = let s = c.before.before in sound_long s.args.r.now s.requires.0
 
 all-accepted-requires : tie.Need-all-accepted-requires
 all-accepted-requires c κs =

@@ -1,19 +1,19 @@
 -- `previous_accepted` meets its contract. Assumes nothing.
 use native.Mathlib.Omega.{arith}
-use Rattle.record_layout.proofs.Sound.{sound-long, sound-named}
-use Rattle.update_changes.proofs.Banks.{banks-few}
+use Rattle.record_layout.proofs.Sound.{sound_long, sound_named}
+use Rattle.update_changes.proofs.Banks.{banks_few}
 use borrow.Author.Rules.{rules}
 use Rattle.update_changes.proofs.previous_accepted.Statement.{statement}
 use Rattle.update_changes.proofs.previous_accepted.Tie as tie
 
 previous-requires : tie.Need-previous-requires
-previous-requires c κs = let s = c.before in sound-long s.args.r.now s.requires
+previous-requires c κs = let s = c.before in sound_long s.args.r.now s.requires
 
 state-requires : tie.Need-state-requires
 state-requires c κs =
     let s = c.before.before in
     let r = s.args.r.now in
-    (sound-long r s.requires, omega (arith, (banks-few r s.requires).1, (sound-named r s.requires).1, c.previous.ensures))
+    (sound_long r s.requires, omega (arith, (banks_few r s.requires).1, (sound_named r s.requires).1, c.previous.ensures))
 
 returns : tie.Need-returns
 returns c = rw (c.state.ensures, c.before.previous.ensures)

@@ -1,12 +1,12 @@
 -- `number` meets its contract: a refusal by its number. Assumes nothing.
 use mathlib.Core.Path.{sym, ap, ◌∙◌}
 use borrow.Author.Rules.{rules}
-use Rattle.refusal_order.specs.Decide.{verdictNumber}
+use Rattle.refusal_order.specs.Decide.{verdict_number}
 use Rattle.refusal_order.proofs.Verdict.number.Statement.{statement}
 use Rattle.refusal_order.proofs.Verdict.number.Tie as tie
 
 returns-2 : tie.Need-returns-2
-returns-2 c = c.number.ensures ∙ sym (ap verdictNumber c.before.before.self.given.1)
+returns-2 c = c.number.ensures ∙ sym (ap verdict_number c.before.before.self.given.1)
 
 pub number-spec : {M : Type 1} → statement M
 number-spec =

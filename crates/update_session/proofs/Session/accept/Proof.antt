@@ -3,51 +3,51 @@ use mathlib.Core.Path.{◌≡◌, refl, sym, ap, ◌∙◌}
 use mathlib.Core.Bool.{true, false}
 use mathlib.Core.List.{◌∷◌, []}
 use lib.ListN.{length}
-use Rattle.refusal_order.specs.Decide.{passed, decisionOf, decide}
+use Rattle.refusal_order.specs.Decide.{passed, decision_of, decide}
 use native.Mathlib.Omega.{arith}
 use borrow.Author.Tests.{le-leb, lt-leb}
 use Rattle.refusals.specs.declared.Refusal.TheVariants.{SessionState, NoImage}
-use Rattle.update_changes.specs.Changed.{accept, changeOf, newRecord}
+use Rattle.update_changes.specs.Changed.{accept, change_of, new_record}
 use Rattle.update_session.specs.Sessions.{trial}
-use Rattle.update_session.specs.Calls.{commonTests, ownTests, nextSession}
+use Rattle.update_session.specs.Calls.{common_tests, own_tests, next_session}
 use Rattle.update_session.proofs.Named.{named_by}
-use Rattle.update_session.proofs.Answered.{common-held, common-changeable, refused-first, refused-own, accepted-own}
+use Rattle.update_session.proofs.Answered.{common_held, common_changeable, refused_first, refused_own, accepted_own}
 use Rattle.update_committed_set.proofs.Known.{known}
 use borrow.Author.Rules.{rules}
 use Rattle.update_session.proofs.Session.accept.Statement.{statement}
 use Rattle.update_session.proofs.Session.accept.Tie as tie
 
 -- none of 20, 23, 21, 22 and 24
-admitted : (c : tie.After-enum-told) → let s = c.before.before.before.before.before in passed ≡ decide (commonTests s.args.self s.args.area.now (length s.args.out.now))
-admitted c = ap decisionOf (sym c.enum_told.given.1) ∙ c.before.before.admit.ensures
+admitted : (c : tie.After-enum-told) → let s = c.before.before.before.before.before in passed ≡ decide (common_tests s.args.self s.args.area.now (length s.args.out.now))
+admitted c = ap decision_of (sym c.enum_told.given.1) ∙ c.before.before.admit.ensures
 
 returns : tie.Need-returns
 returns c =
     let v = c.before.before in
     let m = v.before.before in
     let s = m.before.before.before in
-    rw c.refused.ensures (refused-first (accept s.args.t3) s.args.self s.args.area.now s.args.out.now _ _ v.verdict.given.1 m.admit.ensures)
+    rw c.refused.ensures (refused_first (accept s.args.t3) s.args.self s.args.area.now s.args.out.now _ _ v.verdict.given.1 m.admit.ensures)
 
 returns-2 : tie.Need-returns-2
-unfolding decide ownTests
+unfolding decide own_tests
 returns-2 c =
     let t = c.before.before in
     let s = t.before.before.before.before.before in
     rw c.refused2.ensures
-    (refused-own (accept s.args.t3) s.args.self s.args.area.now s.args.out.now SessionState (admitted t)
+    (refused_own (accept s.args.t3) s.args.self s.args.area.now s.args.out.now SessionState (admitted t)
     (rw (named_by false s.args.self (0 ∷ 1 ∷ 3 ∷ 4 ∷ []) (trial ∷ []) c.before.match2.keys2 refl)))
 
 held-record-requires : tie.Need-held-record-requires
 held-record-requires c κs =
     let t = c.before.before in
     let s = t.before.before.before.before.before in
-    common-held s.args.self s.args.area.now (length s.args.out.now) (admitted t)
+    common_held s.args.self s.args.area.now (length s.args.out.now) (admitted t)
 
 image-count-requires : tie.Need-image-count-requires
 image-count-requires c κs = let h = c.before.before.held-record in (known h.result.now h.ensures.1).header
 
 returns-3 : tie.Need-returns-3
-unfolding decide ownTests
+unfolding decide own_tests
 returns-3 c =
     let n = c.before.before in
     let i = n.before in
@@ -56,7 +56,7 @@ returns-3 c =
     let t = m.before in
     let s = t.before.before.before.before.before in
     rw c.refused3.ensures
-    (refused-own (accept s.args.t3) s.args.self s.args.area.now s.args.out.now NoImage (admitted t)
+    (refused_own (accept s.args.t3) s.args.self s.args.area.now s.args.out.now NoImage (admitted t)
     (rw (named_by true s.args.self (2 ∷ []) (trial ∷ []) m.match2.keys1 refl, ← h.held-record.ensures.0, ← n.image-count.ensures, ← i.image-of.ensures, le-leb _ _ c.before.if1.true)))
 
 after-accept-requires : tie.Need-after-accept-requires
@@ -70,12 +70,12 @@ changed-requires c κs =
     let h = n.before.before.before in
     let t = h.before.before.before in
     let s = t.before.before.before.before.before in (
-      common-changeable s.args.self s.args.area.now s.args.out.now (admitted t),
+      common_changeable s.args.self s.args.area.now s.args.out.now (admitted t),
       rw (← h.held-record.ensures.0) (omega (arith, n.image-count.ensures, e.if1.false)),
     )
 
 returns-4 : tie.Need-returns-4
-unfolding decide ownTests nextSession newRecord changeOf
+unfolding decide own_tests next_session new_record change_of
 returns-4 c =
     let x = c.before.before in
     let z = x.before.before in
@@ -86,7 +86,7 @@ returns-4 c =
     let m = h.before.before in
     let t = m.before in
     let s = t.before.before.before.before.before in
-    accepted-own (accept s.args.t3) s.args.self s.args.area.now s.args.out.now _ _ (admitted t)
+    accepted_own (accept s.args.t3) s.args.self s.args.area.now s.args.out.now _ _ (admitted t)
     (rw (
       named_by true s.args.self (2 ∷ []) (trial ∷ []) m.match2.keys1 refl,
       ← h.held-record.ensures.0,

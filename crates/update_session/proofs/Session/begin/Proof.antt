@@ -4,12 +4,12 @@ use mathlib.Core.Bool.{true, false}
 use mathlib.Core.List.{◌∷◌, []}
 use lib.ListN.{length}
 use Rattle.refusals.specs.declared.Refusal.TheVariants.{SessionState}
-use Rattle.refusal_order.specs.Decide.{passed, decisionOf, decide}
-use Rattle.update_changes.specs.Changed.{begin, changeOf, newRecord}
-use Rattle.update_session.specs.Sessions.{namedFor}
-use Rattle.update_session.specs.Calls.{commonTests, ownTests, nextSession}
+use Rattle.refusal_order.specs.Decide.{passed, decision_of, decide}
+use Rattle.update_changes.specs.Changed.{begin, change_of, new_record}
+use Rattle.update_session.specs.Sessions.{named_for}
+use Rattle.update_session.specs.Calls.{common_tests, own_tests, next_session}
 use Rattle.update_session.proofs.Named.{named_by}
-use Rattle.update_session.proofs.Answered.{common-held, common-changeable, refused-first, refused-own, accepted-own}
+use Rattle.update_session.proofs.Answered.{common_held, common_changeable, refused_first, refused_own, accepted_own}
 use native.Mathlib.Omega.{arith}
 use Rattle.update_committed_set.proofs.Known.{known}
 use borrow.Author.Rules.{rules}
@@ -17,34 +17,34 @@ use Rattle.update_session.proofs.Session.begin.Statement.{statement}
 use Rattle.update_session.proofs.Session.begin.Tie as tie
 
 -- none of 20, 23, 21, 22 and 24
-admitted : (c : tie.After-enum-told) → let s = c.before.before.before.before.before in passed ≡ decide (commonTests s.args.self s.args.area.now (length s.args.out.now))
-admitted c = ap decisionOf (sym c.enum_told.given.1) ∙ c.before.before.admit.ensures
+admitted : (c : tie.After-enum-told) → let s = c.before.before.before.before.before in passed ≡ decide (common_tests s.args.self s.args.area.now (length s.args.out.now))
+admitted c = ap decision_of (sym c.enum_told.given.1) ∙ c.before.before.admit.ensures
 
 returns : tie.Need-returns
 returns c =
     let v = c.before.before in
     let m = v.before.before in
     let s = m.before.before.before in
-    rw c.refused.ensures (refused-first begin s.args.self s.args.area.now s.args.out.now _ _ v.verdict.given.1 m.admit.ensures)
+    rw c.refused.ensures (refused_first begin s.args.self s.args.area.now s.args.out.now _ _ v.verdict.given.1 m.admit.ensures)
 
 held-record-requires : tie.Need-held-record-requires
 held-record-requires c κs =
     let t = c.before in
     let s = t.before.before.before.before.before in
-    common-held s.args.self s.args.area.now (length s.args.out.now) (admitted t)
+    common_held s.args.self s.args.area.now (length s.args.out.now) (admitted t)
 
 cast-bank : tie.Need-overflow-cast-bank
 cast-bank c =
-    let h = c.before.held-record in omega (arith, c.update-bank.ensures.1, (known h.result.now h.ensures.1).banks-high)
+    let h = c.before.held-record in omega (arith, c.update-bank.ensures.1, (known h.result.now h.ensures.1).banks_high)
 
 changed-requires : tie.Need-changed-requires
 changed-requires c κs =
     let t = c.before.before.before.before in
     let s = t.before.before.before.before.before in
-    (common-changeable s.args.self s.args.area.now s.args.out.now (admitted t), tt)
+    (common_changeable s.args.self s.args.area.now s.args.out.now (admitted t), tt)
 
 returns-2 : tie.Need-returns-2
-unfolding decide ownTests nextSession newRecord changeOf
+unfolding decide own_tests next_session new_record change_of
 returns-2 c =
     let x = c.before.before in
     let b = x.before.before in
@@ -52,18 +52,18 @@ returns-2 c =
     let m = h.before in
     let t = m.before in
     let s = t.before.before.before.before.before in
-    accepted-own begin s.args.self s.args.area.now s.args.out.now _ _ (admitted t)
-    (rw (named_by true s.args.self (0 ∷ 1 ∷ []) (namedFor begin) m.match2.keys1 refl))
+    accepted_own begin s.args.self s.args.area.now s.args.out.now _ _ (admitted t)
+    (rw (named_by true s.args.self (0 ∷ 1 ∷ []) (named_for begin) m.match2.keys1 refl))
     (rw (← h.held-record.ensures.0, ← b.update-bank.ensures.0)) x.changed.ensures
 
 returns-3 : tie.Need-returns-3
-unfolding decide ownTests
+unfolding decide own_tests
 returns-3 c =
     let t = c.before.before in
     let s = t.before.before.before.before.before in
     rw c.refused2.ensures
-    (refused-own begin s.args.self s.args.area.now s.args.out.now SessionState (admitted t)
-    (rw (named_by false s.args.self (2 ∷ 3 ∷ 4 ∷ []) (namedFor begin) c.before.match2.keys2 refl)))
+    (refused_own begin s.args.self s.args.area.now s.args.out.now SessionState (admitted t)
+    (rw (named_by false s.args.self (2 ∷ 3 ∷ 4 ∷ []) (named_for begin) c.before.match2.keys2 refl)))
 
 pub begin-spec : {M : Type 1} → statement M
 begin-spec =

@@ -6,20 +6,20 @@ use native.Mathlib.Omega.{arith}
 use borrow.Author.Tests.{le-leb, lt-leb}
 use lib.ListN.{length}
 use Rattle.refusals.specs.declared.Refusal.TheVariants.{SessionState, NoImage}
-use Rattle.refusal_order.specs.Decide.{passed, decisionOf, decide}
-use Rattle.update_changes.specs.Changed.{commit, changeOf, newRecord}
+use Rattle.refusal_order.specs.Decide.{passed, decision_of, decide}
+use Rattle.update_changes.specs.Changed.{commit, change_of, new_record}
 use Rattle.update_session.specs.Sessions.{staging}
-use Rattle.update_session.specs.Calls.{commonTests, ownTests, nextSession}
+use Rattle.update_session.specs.Calls.{common_tests, own_tests, next_session}
 use Rattle.update_session.proofs.Named.{named_by}
-use Rattle.update_session.proofs.Answered.{common-held, common-changeable, refused-first, refused-own, accepted-own}
+use Rattle.update_session.proofs.Answered.{common_held, common_changeable, refused_first, refused_own, accepted_own}
 use Rattle.update_committed_set.proofs.Known.{known}
 use borrow.Author.Rules.{rules}
 use Rattle.update_session.proofs.Session.commit.Statement.{statement}
 use Rattle.update_session.proofs.Session.commit.Tie as tie
 
 -- none of 20, 23, 21, 22 and 24
-admitted : (c : tie.After-enum-told) → let s = c.before.before.before.before.before in passed ≡ decide (commonTests s.args.self s.args.area.now (length s.args.out.now))
-admitted c = ap decisionOf (sym c.enum_told.given.1) ∙ c.before.before.admit.ensures
+admitted : (c : tie.After-enum-told) → let s = c.before.before.before.before.before in passed ≡ decide (common_tests s.args.self s.args.area.now (length s.args.out.now))
+admitted c = ap decision_of (sym c.enum_told.given.1) ∙ c.before.before.admit.ensures
 
 returns : tie.Need-returns
 returns c =
@@ -27,28 +27,28 @@ returns c =
     let m = v.before.before in
     let s = m.before.before.before in
     rw c.refused.ensures
-    (refused-first (commit s.args.t3 s.args.request) s.args.self s.args.area.now s.args.out.now _ _ v.verdict.given.1 m.admit.ensures)
+    (refused_first (commit s.args.t3 s.args.request) s.args.self s.args.area.now s.args.out.now _ _ v.verdict.given.1 m.admit.ensures)
 
 returns-2 : tie.Need-returns-2
-unfolding decide ownTests
+unfolding decide own_tests
 returns-2 c =
     let t = c.before.before in
     let s = t.before.before.before.before.before in
     rw c.refused2.ensures
-    (refused-own (commit s.args.t3 s.args.request) s.args.self s.args.area.now s.args.out.now SessionState (admitted t)
+    (refused_own (commit s.args.t3 s.args.request) s.args.self s.args.area.now s.args.out.now SessionState (admitted t)
     (rw (named_by false s.args.self (0 ∷ 2 ∷ 3 ∷ 4 ∷ []) (staging ∷ []) c.before.match2.keys2 refl)))
 
 held-record-requires : tie.Need-held-record-requires
 held-record-requires c κs =
     let t = c.before.before.before in
     let s = t.before.before.before.before.before in
-    common-held s.args.self s.args.area.now (length s.args.out.now) (admitted t)
+    common_held s.args.self s.args.area.now (length s.args.out.now) (admitted t)
 
 image-count-requires : tie.Need-image-count-requires
 image-count-requires c κs = let h = c.before.before.held-record in (known h.result.now h.ensures.1).header
 
 returns-3 : tie.Need-returns-3
-unfolding decide ownTests
+unfolding decide own_tests
 returns-3 c =
     let n = c.before.before in
     let i = n.before in
@@ -57,14 +57,14 @@ returns-3 c =
     let t = v.before.before in
     let s = t.before.before.before.before.before in
     rw (c.refused3.ensures, ← v.self.given.1)
-    (refused-own (commit s.args.t3 s.args.request) s.args.self s.args.area.now s.args.out.now NoImage (admitted t)
+    (refused_own (commit s.args.t3 s.args.request) s.args.self s.args.area.now s.args.out.now NoImage (admitted t)
     (rw (v.self.given.1, ← h.held-record.ensures.0, ← n.image-count.ensures, ← i.image-of.ensures, le-leb _ _ c.before.if1.true)))
 
 with-image-requires : tie.Need-with-image-requires
 with-image-requires c κs =
     let n = c.before in
     let h = n.before.before.before.held-record in
-    omega (arith, (known h.result.now h.ensures.1).images-high, n.image-count.ensures, c.if1.false)
+    omega (arith, (known h.result.now h.ensures.1).images_high, n.image-count.ensures, c.if1.false)
 
 changed-requires : tie.Need-changed-requires
 changed-requires c κs =
@@ -74,10 +74,10 @@ changed-requires c κs =
     let h = i.before.before in
     let t = h.before.before.before.before in
     let s = t.before.before.before.before.before in
-    (common-changeable s.args.self s.args.area.now s.args.out.now (admitted t), rw (← h.held-record.ensures.0) (omega (arith, n.image-count.ensures, e.if1.false)))
+    (common_changeable s.args.self s.args.area.now s.args.out.now (admitted t), rw (← h.held-record.ensures.0) (omega (arith, n.image-count.ensures, e.if1.false)))
 
 returns-4 : tie.Need-returns-4
-unfolding decide ownTests nextSession newRecord changeOf
+unfolding decide own_tests next_session new_record change_of
 returns-4 c =
     let x = c.before.before in
     let w = x.before.before in
@@ -88,7 +88,7 @@ returns-4 c =
     let v = h.before.before in
     let t = v.before.before in
     let s = t.before.before.before.before.before in
-    accepted-own (commit s.args.t3 s.args.request) s.args.self s.args.area.now s.args.out.now _ _ (admitted t)
+    accepted_own (commit s.args.t3 s.args.request) s.args.self s.args.area.now s.args.out.now _ _ (admitted t)
     (rw (v.self.given.1, ← h.held-record.ensures.0, ← n.image-count.ensures, ← i.image-of.ensures, lt-leb _ _ e.if1.false))
     (rw (v.self.given.1, ← h.held-record.ensures.0, ← i.image-of.ensures, ← w.with-image.ensures)) x.changed.ensures
 
