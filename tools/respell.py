@@ -27,6 +27,7 @@ APART = {
     "no-session": "no_session_stays",
     "every_in": "every_in_lem",
     "all_in": "all_in_lem",
+    "ones-in": "ones_in_lem",
 }
 
 
@@ -103,13 +104,15 @@ def foreign(text):
 
 
 def turn(text, turned, fields, skip):
+    aliases = set(re.findall(r"^\s*(?:ghost )?use [\w'.+-]+ as ([a-z][\w'-]*)", text, re.M))
+
     def one(m):
         word, before = m.group(0), m.string[: m.start()]
         if word in skip or word not in turned:
             return word
         if before.endswith("."):
             dotted = re.search(r"([\w'-]+)\.$", before)
-            by_module = dotted and dotted.group(1)[0].isupper()
+            by_module = dotted and (dotted.group(1)[0].isupper() or dotted.group(1) in aliases)
             if word not in fields and not by_module:
                 return word
         if m.string[m.end():].startswith(".") and re.search(r"(?:use|Rattle)[\w .'-]*$", before.split("\n")[-1]):
