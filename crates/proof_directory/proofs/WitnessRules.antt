@@ -19,19 +19,19 @@ use Rattle.proof_directory.proofs.WitnessRecord.{images_is, guid_is, bank0_is, b
 
 module _ (x : Wanted) (p : Possible x) where
   -- those that ask for one value
-  fixed : (rule.versionRule (witness_record x) ≡ true) × (rule.bankCountRule (witness_record x) ≡ true)
-      × (rule.bankEntrySizeRule (witness_record x) ≡ true) × (rule.imageEntrySizeRule (witness_record x) ≡ true)
-      × (rule.descriptorOffsetRule (witness_record x) ≡ true)
-  unfolding rule.versionRule rule.bankCountRule rule.bankEntrySizeRule rule.imageEntrySizeRule rule.descriptorOffsetRule
+  fixed : (rule.version_rule (witness_record x) ≡ true) × (rule.bank_count_rule (witness_record x) ≡ true)
+      × (rule.bank_entry_size_rule (witness_record x) ≡ true) × (rule.image_entry_size_rule (witness_record x) ≡ true)
+      × (rule.descriptor_offset_rule (witness_record x) ≡ true)
+  unfolding rule.version_rule rule.bank_count_rule rule.bank_entry_size_rule rule.image_entry_size_rule rule.descriptor_offset_rule
       witness_record words_bytes bytes le
   fixed = (refl, rw (banks_is x p), refl, rw (banks_is x p), refl)
 
-  image_count_holds : rule.imageCountRule (witness_record x) ≡ true
-  unfolding rule.imageCountRule
+  image_count_holds : rule.image_count_rule (witness_record x) ≡ true
+  unfolding rule.image_count_rule
   image_count_holds = rw (images_is x p, le-leb 1 x.images p.some, le-leb x.images image_limit p.few)
 
-  size_holds : rule.sizeRule (witness_record x) ≡ true
-  unfolding rule.sizeRule
+  size_holds : rule.size_rule (witness_record x) ≡ true
+  unfolding rule.size_rule
   size_holds =
       rw ((header_is x p).1.1.1.1.0, banks_is x p, images_is x p, record_long x p, eq-eqb (size_for x) (size_for x) refl)
 
@@ -46,59 +46,59 @@ module _ (x : Wanted) (p : Possible x) where
   unfolding witness_record words_bytes bytes le
   header_reserved = (refl, refl, omega (arith, p.few))
 
-  reserved_holds : rule.reservedRule (witness_record x) ≡ true
-  unfolding rule.reservedRule
+  reserved_holds : rule.reserved_rule (witness_record x) ≡ true
+  unfolding rule.reserved_rule
   reserved_holds =
       rw (header_reserved.0, header_reserved.1, header_reserved.2)
       (every_bank (λ k b. eqb (reserved (witness_record x) k b) 0) (λ k h. rw (bank0_is x p k h).1) (λ k h. rw (bank1_is x p k h).1))
 
-  banks_named_holds : rule.banksNamedRule (witness_record x) ≡ true
-  unfolding rule.banksNamedRule
+  banks_named_holds : rule.banks_named_rule (witness_record x) ≡ true
+  unfolding rule.banks_named_rule
   banks_named_holds =
       let h = (header_is x p).1.1 in
       rw (h.0, h.1.0, banks_is x p, lt-ltb (active_for x) banks (omega (arith, active_low x.right)))
 
-  accepted_holds : rule.acceptedRule (witness_record x) ≡ true
-  unfolding rule.acceptedRule
+  accepted_holds : rule.accepted_rule (witness_record x) ≡ true
+  unfolding rule.accepted_rule
   accepted_holds =
       every_bank (λ k b. leb (accepted (witness_record x) k b) 1)
       (λ k h. rw (bank0_is x p k h).0 (le-leb (x.flags k) 1 (p.flags_low k h))) (λ k h. rw (bank1_is x p k h).0)
 
-  type_guids_holds : rule.typeGuidsRule (witness_record x) ≡ true
-  unfolding rule.typeGuidsRule
+  type_guids_holds : rule.type_guids_rule (witness_record x) ≡ true
+  unfolding rule.type_guids_rule
   type_guids_holds =
       rw (images_is x p)
       (distinct_same x.images (type_guid (witness_record x)) x.guids (guid_is x p) ∙ p.guids_differ)
 
   -- by whether all are accepted in bank 0
   states_with : (b : Bool) → all_for x ≡ b
-      → (state (witness_record x) 0 ≡ state_for x) × (state (witness_record x) 1 ≡ accepted_bank) × (rule.statesRule (witness_record x) ≡ true)
-  unfolding rule.statesRule rule.stateAllowed below witness_record words_bytes bytes
+      → (state (witness_record x) 0 ≡ state_for x) × (state (witness_record x) 1 ≡ accepted_bank) × (rule.states_rule (witness_record x) ≡ true)
+  unfolding rule.states_rule rule.state_allowed below witness_record words_bytes bytes
   states_with true e = rw (banks_is x p, e) (refl, refl, refl)
   states_with false e = rw (banks_is x p, e) (refl, refl, refl)
 
-  all_0 : rule.allAccepted (witness_record x) 0 ≡ all_for x
-  unfolding rule.allAccepted
+  all_0 : rule.all_accepted (witness_record x) 0 ≡ all_for x
+  unfolding rule.all_accepted
   all_0 =
       rw (images_is x p)
       (below_same (λ k. eqb (accepted (witness_record x) k 0) 1) (λ k. eqb (x.flags k) 1) x.images (λ k h. rw (bank0_is x p k h).0))
 
-  all_1 : rule.allAccepted (witness_record x) 1 ≡ true
-  unfolding rule.allAccepted
+  all_1 : rule.all_accepted (witness_record x) 1 ≡ true
+  unfolding rule.all_accepted
   all_1 = rw (images_is x p) (below_all (λ k. eqb (accepted (witness_record x) k 1) 1) x.images (λ k h. rw (bank1_is x p k h).0))
 
   live : (b : Bool) → eqb (state (witness_record x) (cond b 0 1)) invalid ≡ false
   live true = rw (states_with (all_for x) refl).0 (live_ended (all_for x))
   live false = rw (states_with (all_for x) refl).1
 
-  banks_hold : rule.banksRule (witness_record x) ≡ true
-  unfolding rule.banksRule rule.bankConsistent bank_fits_words below
+  banks_hold : rule.banks_rule (witness_record x) ≡ true
+  unfolding rule.banks_rule rule.bank_consistent bank_fits_words below
   banks_hold =
       let s = states_with (all_for x) refl in
       rw ((header_is x p).1.1.0, live x.right, banks_is x p, s.0, s.1, all_0, all_1, fits_ended (all_for x))
 
-  crc_holds : rule.crcRule (witness_record x) ≡ true
-  unfolding rule.crcRule witness_record words_bytes bytes
+  crc_holds : rule.crc_rule (witness_record x) ≡ true
+  unfolding rule.crc_rule witness_record words_bytes bytes
   crc_holds = eq-eqb (crc (witness_record x)) (crc_for x) (header_is x p).0
 
   pub witness_sound : sound (witness_record x) ≡ true

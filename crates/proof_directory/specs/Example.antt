@@ -60,10 +60,10 @@ pub record WrittenExamples : Type 0 where
   pub fallback : Writes 1 0 0
 
 pub written_examples : WrittenExamples
-unfolding written written_by writer_tests start_up_tests read_tests decide started_session source_of read_from record_of rule.soundCopy
-    rule.sound rule.versionRule rule.bankCountRule rule.imageCountRule rule.bankEntrySizeRule rule.imageEntrySizeRule
-    rule.sizeRule rule.descriptorOffsetRule rule.reservedRule rule.banksNamedRule rule.acceptedRule rule.typeGuidsRule
-    rule.stateAllowed rule.statesRule rule.allAccepted rule.bankConsistent rule.banksRule rule.crcRule below le bytes guid same
+unfolding written written_by writer_tests start_up_tests read_tests decide started_session source_of read_from record_of rule.sound_copy
+    rule.sound rule.version_rule rule.bank_count_rule rule.image_count_rule rule.bank_entry_size_rule rule.image_entry_size_rule
+    rule.size_rule rule.descriptor_offset_rule rule.reserved_rule rule.banks_named_rule rule.accepted_rule rule.type_guids_rule
+    rule.state_allowed rule.states_rule rule.all_accepted rule.bank_consistent rule.banks_rule rule.crc_rule below le bytes guid same
     division_step steps with_byte with_bytes crc32_of words_bytes header_bytes entry_bytes entries_bytes directory_bytes up_to
 written_examples =
     record {

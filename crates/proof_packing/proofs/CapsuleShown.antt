@@ -115,8 +115,8 @@ module _ (c : Contents) (good : Good c) where
     places : (a + image_start q ≡ a + head) × (a + image_end q ≡ a + head + length p.image) × (a + vendor_code_end q ≡ e)
     places =
         let small = payload_small c good j h in
-        let start = fields.start-read p (good.payload j h) small in
-        let size = fields.image-size-read p (good.payload j h) small in
+        let start = fields.start_read p (good.payload j h) small in
+        let size = fields.image_size_read p (good.payload j h) small in
         let end = fields.end_read p (good.payload j h) small in
         (omega arith, omega arith, omega (arith, payload_end))
 
@@ -148,11 +148,11 @@ module _ (c : Contents) (good : Good c) where
     payload_same =
         let g = good.payload j h in
         let small = payload_small c good j h in
-        let version : shown version 0 s (located s k) ≡ p.version = rw (found, payload_part) (fields.version-read p g small) in
-        let guid : type_guid_of s (located s k) ≡ p.type_guid = rw (found, payload_part) (fields.guid-read p g small) in
+        let version : shown version 0 s (located s k) ≡ p.version = rw (found, payload_part) (fields.version_read p g small) in
+        let guid : type_guid_of s (located s k) ≡ p.type_guid = rw (found, payload_part) (fields.guid_read p g small) in
         let index : image_index_of s (located s k) ≡ p.image_index = rw (found, payload_part) (fields.index_read p g small) in
         let instance : hardware_instance_of s (located s k) ≡ p.hardware_instance =
-        rw (found, payload_part) (fields.instance-read p g small) in
+        rw (found, payload_part) (fields.instance_read p g small) in
         rw (driver_count_lem, version, guid, index, instance, image_shown, code_shown)
 
   -- ---- all of it

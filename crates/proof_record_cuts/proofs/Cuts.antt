@@ -37,8 +37,8 @@ a_copy Neither = false
 a_copy Copy0 = true
 a_copy Copy1 = true
 
-read_is : (a r : List ℕ) → general.recordRead version2 a ≡ some r → IsRead a r
-unfolding general.recordRead general.read_of format.soundCopy format.recordOf version2 sound_copy record_of source_of read_from
+read_is : (a r : List ℕ) → general.record_read version2 a ≡ some r → IsRead a r
+unfolding general.record_read general.read_of format.sound_copy format.record_of version2 sound_copy record_of source_of read_from
 read_is a r e = go (sound_copy (copy0 a)) (sound_copy (copy1 a)) refl refl e
   where
     go : (s t : Bool) → sound_copy (copy0 a) ≡ s → sound_copy (copy1 a) ≡ t
@@ -47,8 +47,8 @@ read_is a r e = go (sound_copy (copy0 a)) (sound_copy (copy1 a)) refl refl e
     go false true p q e = record { one_sound = rw (p, q) (λ z. no_true (sym (ap a_copy z))); is = rw (p, q) cc }
     go false false p q e = absurd (no_true (ap holds e))
 
-read_some : (a : List ℕ) → source_of a ≢ Neither → general.recordRead version2 a ≡ some (record_read a)
-unfolding general.recordRead general.read_of format.soundCopy format.recordOf version2 sound_copy record_of source_of read_from
+read_some : (a : List ℕ) → source_of a ≢ Neither → general.record_read version2 a ≡ some (record_read a)
+unfolding general.record_read general.read_of format.sound_copy format.record_of version2 sound_copy record_of source_of read_from
 read_some a h = go (sound_copy (copy0 a)) (sound_copy (copy1 a)) h
   where
     go : (s t : Bool) → cond s Copy0 (cond t Copy1 Neither) ≢ Neither
@@ -57,16 +57,16 @@ read_some a h = go (sound_copy (copy0 a)) (sound_copy (copy1 a)) h
     go false true h = refl
     go false false h = absurd (h refl)
 
-is_read : (a r : List ℕ) → IsRead a r → general.recordRead version2 a ≡ some r
+is_read : (a r : List ℕ) → IsRead a r → general.record_read version2 a ≡ some r
 is_read a r h = read_some a h.one_sound ∙ ap {B = Option (List ℕ)} (λ (l : List ℕ). some l) h.is
 
 -- ---- two sound and equal copies
 pub both_of : (a r : List ℕ) → general.BothHold version2 r a → BothHold a r
-unfolding format.soundCopy format.recordOf version2 sound_copy record_of
+unfolding format.sound_copy format.record_of version2 sound_copy record_of
 both_of a r h = record { sound0 = h.sound0; is0 = h.is0; sound1 = h.sound1; is1 = h.is1 }
 
 of_both : (a r : List ℕ) → BothHold a r → general.BothHold version2 r a
-unfolding format.soundCopy format.recordOf version2 sound_copy record_of
+unfolding format.sound_copy format.record_of version2 sound_copy record_of
 of_both a r h = record { sound0 = h.sound0; is0 = h.is0; sound1 = h.sound1; is1 = h.is1 }
 
 held : (a : List ℕ) → sound_and_equal a ≡ true → BothHold a (record_of (copy0 a))
@@ -87,7 +87,7 @@ shift_none (s ∷ ss) = rw (zero-add s.0, shift_none ss)
 
 -- into one copy
 copy_is : (base : ℕ) (c r : List ℕ) → map (shift base) (general.sparing version2 planned c r) ≡ copy_stores base c r
-unfolding general.sparing format.recordOf version2 planned copy_stores plan record_of
+unfolding general.sparing format.record_of version2 planned copy_stores plan record_of
 copy_is base c r = go (same (record_of c) r)
   where
     go : (t : Bool) → map (shift base) (cond t [] (planned c r)) ≡ cond t [] (map (shift base) (planned c r))
@@ -95,8 +95,8 @@ copy_is base c r = go (same (record_of c) r)
     go false = refl
 
 -- of a change
-change_is : (a new : List ℕ) → general.changeList version2 planned a new ≡ change_stores a new
-unfolding general.changeList version2 change_stores
+change_is : (a new : List ℕ) → general.change_list version2 planned a new ≡ change_stores a new
+unfolding general.change_list version2 change_stores
 change_is a new =
     ap (λ (ss : List Store). ss ++ map (shift copy_size) (general.sparing version2 planned (copy1 a) new))
     (sym (shift_none (general.sparing version2 planned (copy0 a) new)) ∙ copy_is 0 (copy0 a) new)
@@ -161,10 +161,10 @@ module _ (a new : List ℕ) (l : length a ≡ area_size) (b : Bytes a) (e : soun
   unfolding version2
   survives n = cuts.change a (record_of (copy0 a)) new n (area_of a l b) (of_both a (record_of (copy0 a)) (held a e)) bn sn
 
-  reads : (n : ℕ) (r : List ℕ) → general.recordRead version2 (general.cut version2 planned a new n) ≡ some r → IsRead (changed a new n) r
+  reads : (n : ℕ) (r : List ℕ) → general.record_read version2 (general.cut version2 planned a new n) ≡ some r → IsRead (changed a new n) r
   reads n r h = read_is (changed a new n) r (rw (cut_is n) at h)
 
-  all_done : (n : ℕ) → length (change_stores a new) ≤ n → length (general.changeList version2 planned a new) ≤ n
+  all_done : (n : ℕ) → length (change_stores a new) ≤ n → length (general.change_list version2 planned a new) ≤ n
   all_done n k = rw (change_is a new) k
 
   change_cut : (n : ℕ) → ChangeCut a (record_of (copy0 a)) new n
@@ -184,7 +184,7 @@ module _ (a new : List ℕ) (l : length a ≡ area_size) (b : Bytes a) (e : soun
 
 -- a repair
 module _ (a : List ℕ) (l : length a ≡ area_size) (b : Bytes a) (s : source_of a ≢ Neither) where
-  stores_are : general.changeList version2 planned a (record_read a) ≡ repair_stores a
+  stores_are : general.change_list version2 planned a (record_read a) ≡ repair_stores a
   stores_are = change_is a (record_read a) ∙ repair_is a s
 
   mended_is : (n : ℕ) → general.cut version2 planned a (record_read a) n ≡ mended a n

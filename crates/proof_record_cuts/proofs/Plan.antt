@@ -98,6 +98,7 @@ module _ (c r : List ℕ) where
 
   differing_or : (os : List ℕ) (p : ℕ) → Memᴰ p os → Equal p ⊎ Memᴰ p (differing c r os)
   unfolding differing
+  differing_or [] p m = elim m [ ]
   differing_or (o ∷ os) p (Memᴰ.head q) = or_head (differing c r os) o p (eqb (le 4 c o) (le 4 r o)) refl q
   differing_or (o ∷ os) p (Memᴰ.tail m) = or_keep (differing c r os) o p (eqb (le 4 c o) (le 4 r o)) (differing_or os p m)
 

@@ -35,7 +35,7 @@ module _ (r : List ℕ) (h : sound r ≡ true) where
   whole_words = omega (arith, in_words)
 
   pub record_high : length r ≤ record_limit
-  record_high = sizes.record-high r (bank_count r) (image_count r) sized
+  record_high = sizes.record_high r (bank_count r) (image_count r) sized
 
   marked : get_or r 4 0 ≢ 0
   unfolding le

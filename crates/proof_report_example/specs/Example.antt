@@ -29,9 +29,9 @@ pub example : (rest : List ℕ) → length rest ≡ 16264
     → report_of (example_record ++ rest)
     ≡ ascii "record\t0\t120\nactive\t0\nprevious\t1\nbank\t0\t252\nbank\t1\t252\nimage\t0\t0\t1\nimage\t0\t1\t1\n"
 unfolding report_of report_by read_tests decide record_lines head_lines bank_line image_line image_lines ascending line numbers
-    decimal digits source_of read_from record_of rule.soundCopy rule.sound rule.versionRule rule.bankCountRule
-    rule.imageCountRule rule.bankEntrySizeRule rule.imageEntrySizeRule rule.sizeRule rule.descriptorOffsetRule
-    rule.reservedRule rule.banksNamedRule rule.acceptedRule rule.typeGuidsRule rule.stateAllowed rule.statesRule
-    rule.allAccepted rule.bankConsistent rule.banksRule rule.crcRule below le guid same division_step steps with_byte with_bytes
+    decimal digits source_of read_from record_of rule.sound_copy rule.sound rule.version_rule rule.bank_count_rule
+    rule.image_count_rule rule.bank_entry_size_rule rule.image_entry_size_rule rule.size_rule rule.descriptor_offset_rule
+    rule.reserved_rule rule.banks_named_rule rule.accepted_rule rule.type_guids_rule rule.state_allowed rule.states_rule
+    rule.all_accepted rule.bank_consistent rule.banks_rule rule.crc_rule below le guid same division_step steps with_byte with_bytes
     crc32_of
 example rest h = rw (eq-eqb (length (example_record ++ rest)) area_size (omega (arith, length-append example_record rest)))

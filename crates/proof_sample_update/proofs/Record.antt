@@ -35,9 +35,9 @@ sample_record =
     0 ∷ 0 ∷ 0 ∷ 0 ∷ 0 ∷ 0 ∷ 0 ∷ 0 ∷ 0 ∷ 0 ∷ 0 ∷ 0 ∷ 1 ∷ 0 ∷ 0 ∷ 0 ∷ 0 ∷ 0 ∷ 0 ∷ 0 ∷ []
 
 sample_sound : rule.sound sample_record ≡ true
-unfolding sample_record rule.sound rule.versionRule rule.bankCountRule rule.imageCountRule rule.bankEntrySizeRule rule.imageEntrySizeRule
-    rule.sizeRule rule.descriptorOffsetRule rule.reservedRule rule.banksNamedRule rule.acceptedRule rule.typeGuidsRule rule.stateAllowed
-    rule.statesRule rule.allAccepted rule.bankConsistent rule.banksRule rule.crcRule below le guid same division_step steps with_byte with_bytes crc32_of
+unfolding sample_record rule.sound rule.version_rule rule.bank_count_rule rule.image_count_rule rule.bank_entry_size_rule rule.image_entry_size_rule
+    rule.size_rule rule.descriptor_offset_rule rule.reserved_rule rule.banks_named_rule rule.accepted_rule rule.type_guids_rule rule.state_allowed
+    rule.states_rule rule.all_accepted rule.bank_consistent rule.banks_rule rule.crc_rule below le guid same division_step steps with_byte with_bytes crc32_of
 sample_sound = refl
 
 -- bytes

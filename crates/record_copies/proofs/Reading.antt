@@ -5,8 +5,6 @@ use mathlib.Core.List.{List, ◌∷◌, []}
 use mathlib.Core.Logic.{◌≢◌, ⊎_elim}
 use Prim.Native.Nat.{ℕ}
 use native.Mathlib.Omega.{arith}
-use denote.Enum.Declared.{tag_of}
-use types.Run.{OneOf}
 use Rattle.fields.proofs.Tests.{both}
 use Rattle.fields.proofs.Guid.{same_true}
 use Rattle.record_layout.specs.Layout.{record_of, copy0, copy1}
@@ -14,7 +12,6 @@ use Rattle.record_layout.specs.Rules.{sound, sound_copy}
 use Rattle.record_copies.specs.Copies.{source_of, read_from, records_equal, sound_and_equal}
 use Rattle.record_copies.specs.declared.Source.{Source}
 use Rattle.record_copies.specs.declared.Source.TheVariants.{Copy0, Copy1, Neither}
-use Rattle.record_copies.specs.contracts.Source.{the_type}
 
 first : (x y : Bool) → cond x Copy0 (cond y Copy1 Neither) ≡ Copy0 → x ≡ true
 first true y e = refl
@@ -41,8 +38,8 @@ unfolding source_of
 copy0_unsound a e = (second (sound_copy (copy0 a)) (sound_copy (copy1 a)) e).0
 
 -- one that is neither none nor copy 0, as a match tells it
-pub is_copy1 : (s : Source) → OneOf (1 ∷ 2 ∷ []) (tag_of the_type s) → s ≢ Neither → s ≡ Copy1
-is_copy1 Copy0 h n = ⊎_elim (λ e. absurd (omega arith)) (λ e. absurd (omega arith)) h
+pub is_copy1 : (s : Source) → (s ≡ Copy0 → ⊥) → s ≢ Neither → s ≡ Copy1
+is_copy1 Copy0 h n = absurd (h refl)
 is_copy1 Copy1 h n = refl
 is_copy1 Neither h n = absurd (n refl)
 

@@ -139,4 +139,6 @@ pub plan_parts : (base : ℕ) (c r : List ℕ)
     → plan base c r
     ≡ ((base + 4, 0) ∷ []) ++ (stored base c r (0 ∷ []) ++ (stored base c r (offsets 8 (length r / 4 - 2)) ++ ((base + 4, le 4 r 4) ∷ [])))
 unfolding plan writes other_words
-plan_parts base c r = rw (map-append, stored_append c r base (0 ∷ []) (offsets 8 (length r / 4 - 2)), append_assoc)
+plan_parts base c r =
+    let os = offsets 8 (length r / 4 - 2) in
+    rw (map-append (shift base) (map (store r) (differing c r (0 ∷ os))) (store r 4 ∷ []), stored_append c r base (0 ∷ []) os, append_assoc)

@@ -7,15 +7,12 @@ use Prim.Native.Nat.{ℕ, ◌≤◌}
 use native.Mathlib.Omega.{arith}
 use borrow.Author.Tests.{eq-eqb, le-ltb}
 use lib.ListN.{length}
-use denote.Enum.Declared.{tag_of}
-use types.Run.{OneOf}
 use Rattle.refusals.specs.declared.Refusal.TheVariants.{NoSoundCopy, NotSoundAndEqual}
 use Rattle.record_layout.specs.Layout.{area_size, copy0, copy1}
 use Rattle.record_layout.specs.Rules.{sound_copy}
 use Rattle.record_copies.specs.Copies.{source_of, sound_and_equal}
 use Rattle.record_copies.specs.declared.Source.{Source}
 use Rattle.record_copies.specs.declared.Source.TheVariants.{Copy0, Copy1, Neither}
-use Rattle.record_copies.specs.contracts.Source.{the_type}
 use Rattle.record_copies.proofs.Reading.{copy0_unsound}
 use Rattle.record_stores.specs.Stores.{store_numbers}
 use Rattle.refusal_order.specs.Decide.{refused, decide}
@@ -39,12 +36,6 @@ none_sound a e = lost (sound_copy (copy0 a)) (sound_copy (copy1 a)) e
 pub one_sound : (a : List ℕ) → source_of a ≢ Neither → (sound_test a).0 ≡ false
 unfolding source_of
 one_sound a n = found (sound_copy (copy0 a)) (sound_copy (copy1 a)) n
-
--- what a match that left out Neither tells
-pub some_copy : (s : Source) → OneOf (0 ∷ 1 ∷ []) (tag_of the_type s) → s ≢ Neither
-some_copy Copy0 h e = let z : ◌≡◌ {A = ℕ} 0 2 = cc in omega arith
-some_copy Copy1 h e = let z : ◌≡◌ {A = ℕ} 1 2 = cc in omega arith
-some_copy Neither h e = ⊎_elim (λ (z : 2 ≡ 0). omega arith) (λ (z : 2 ≡ 1). omega arith) h
 
 pub not_copy1 : Copy1 ≢ Neither
 not_copy1 e = let z : ◌≡◌ {A = ℕ} 1 2 = cc in omega arith

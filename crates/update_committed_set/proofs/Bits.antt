@@ -13,10 +13,10 @@ pub one_shifted : (k w : ℕ) → k < w → (1 * 2 ^ k) % 2 ^ w ≡ 2 ^ k
 one_shifted k w h = shl_exact {a = 1} 1 k w (lit< tt) (omega arith) ∙ one-mul (2 ^ k)
 
 -- a number's ones, counted in as many digits as it has, or more
-pub ones_in : (d n : ℕ) → n < 2 ^ d → ones_in d n ≡ ones n
+pub ones_in_lem : (d n : ℕ) → n < 2 ^ d → ones_in d n ≡ ones n
 unfolding ones_in ones
-ones_in zero n h = sym (ap ones (lt-one h))
-ones_in (suc d) n h =
+ones_in_lem zero n h = sym (ap ones (lt-one h))
+ones_in_lem (suc d) n h =
     let z : suc d ≡ d + 1 = omega arith in
     let lt : n < 2 ^ (d + 1) = rw (← z) h in
-    rw (ones_in d (n / 2) (shr_lt d 1 lt)) (sym (ones_step n))
+    rw (ones_in_lem d (n / 2) (shr_lt d 1 lt)) (sym (ones_step n))

@@ -31,5 +31,5 @@ known r e =
       images_high = s.images_high;
       active_low = n.0;
       previous_low = n.1;
-      update_low = banks.update-in r e;
+      update_low = banks.update_in r e;
     }

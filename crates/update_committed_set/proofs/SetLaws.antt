@@ -17,7 +17,7 @@ use Rattle.record_layout.specs.Layout.{image_count}
 use Rattle.record_layout.specs.Every.{below}
 use Rattle.update_committed_set.specs.Set.{set_bits, joined, missing}
 use Rattle.update_committed_set.specs.SetLaws.{in_set, every_in, absent, NoneFrom, SetLaws}
-use Rattle.update_committed_set.proofs.Bits.{ones_in}
+use Rattle.update_committed_set.proofs.Bits.{ones_in_lem}
 
 -- a bit is 0 or 1
 bit : (n : ℕ) → (n % 2 ≡ 0) ⊎ (n % 2 ≡ 1)
@@ -89,7 +89,7 @@ none_absent (suc n) s =
 pub missing_law : (set : ℕ) (r : List ℕ) → image_count r ≤ set_bits → set < 2 ^ image_count r → missing set r ≡ absent (image_count r) set
 unfolding missing
 missing_law set r l h =
-    rw (ones_in set_bits set (lt_of_lt_of_le h (pow_mono l)), ← ones_in (image_count r) set h) (omega (arith, counted (image_count r) set))
+    rw (ones_in_lem set_bits set (lt_of_lt_of_le h (pow_mono l)), ← ones_in_lem (image_count r) set h) (omega (arith, counted (image_count r) set))
 
 -- the bits of a power of 2
 power_bit : (i j : ℕ) → 2 ^ i / 2 ^ j % 2 ≡ cond (eqb i j) 1 0

@@ -1,0 +1,24 @@
+// The static library of crate c_directory_writer for C and Rust: its functions under the names of include/meanderpeg.h, with the same
+// clauses.
+#![tactic(auto)]
+
+ghost use Rattle.std.specs.Prelude.{◌≡◌};
+ghost use Rattle.directory_writer.specs.Writer.{written};
+ghost use Rattle.c_reply.specs.Replied.{replied};
+
+// Returns 0 and sets how many bytes were written at the front of `directory`; or returns the refusal, N20, N21, N28 or
+// N40 to N42, and alters nothing (X5, I8). A reader wants exactly so many bytes.
+#[unsafe(no_mangle)]
+pub extern "C" fn meanderpeg_directory_write(
+    area: &[u8],
+    booted: u32,
+    words: &[u32],
+    directory: &mut [u8],
+    length: &mut usize,
+) -> u32
+    ensures { ((result, length.new) ≡ replied
+        (written area.now booted words.now directory.old).0 length.old)
+        × (directory.new ≡ (written area.now booted words.now directory.old).1) }
+{
+    c_directory_writer::meanderpeg_directory_write(area, booted, words, directory, length)
+}

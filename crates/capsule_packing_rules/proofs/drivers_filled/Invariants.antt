@@ -1,0 +1,12 @@
+-- `drivers_filled` meets its contract: every driver passed has a byte. Assumes nothing.
+use Prim.Native.Nat.{◌-◌}
+use Rattle.capsule_contents.specs.Lent.{drivers_in}
+use Rattle.capsule_packing_rules.specs.Rules.{driver_filled}
+use Rattle.capsule_packing_rules.proofs.Loops.{Passed}
+use Rattle.capsule_packing_rules.proofs.drivers_filled.Given as goal
+
+abbrev pub invariant-loop-k : goal.invariant-loop-k
+invariant-loop-k l = Passed (driver_filled l.table) (drivers_in l.table) l.k
+
+abbrev pub decreases-loop-k : goal.decreases-loop-k
+decreases-loop-k l = l.count - l.k

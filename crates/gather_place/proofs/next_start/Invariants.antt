@@ -1,0 +1,14 @@
+-- `next_start` meets its contract. The loop's invariant: the start is clear of every descriptor passed and of its
+-- block. Assumes nothing.
+use mathlib.Core.Path.{◌≡◌}
+use mathlib.Core.Bool.{true}
+use Prim.Native.Nat.{ℕ, ◌+◌, ◌-◌, ◌≤◌, ◌<◌}
+use lib.ListN.{get_or}
+use Rattle.gather_place.specs.Place.{clear_of}
+use Rattle.gather_place.proofs.next_start.Given as goal
+
+abbrev pub invariant-loop-i : goal.invariant-loop-i
+invariant-loop-i l = (l.i ≤ l.count) × ((k : ℕ) → k < l.i → clear_of l.w l.base l.t (l.base + l.p) (get_or l.ds k 0) ≡ true)
+
+abbrev pub decreases-loop-i : goal.decreases-loop-i
+decreases-loop-i l = l.count - l.i

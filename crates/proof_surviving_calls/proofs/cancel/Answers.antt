@@ -1,0 +1,6 @@
+-- `cancel` meets its contract. Assumes nothing.
+use Rattle.proof_surviving_calls.proofs.Ties.{tied}
+use Rattle.proof_surviving_calls.proofs.cancel.Goals as goal
+
+pub returns : goal.returns
+returns c = tied _ _ _ _ _ _ (λ j. (c.type_inv.area j).fits) c.cancel.ensures

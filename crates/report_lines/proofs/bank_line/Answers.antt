@@ -1,0 +1,20 @@
+-- `bank_line` meets its contract. Assumes nothing.
+use native.Mathlib.Omega.{arith}
+use Rattle.report_lines.proofs.Known.{few_banks}
+use Rattle.record_layout.proofs.Sound.{sound_long}
+use Rattle.report_lines.specs.Lines.{bank_line}
+use Rattle.report_lines.proofs.bank_line.Goals as goal
+
+pub overflow_cast-b : goal.overflow_cast-b
+overflow_cast-b c = omega (arith, few_banks c.args.r.now c.requires.0)
+
+pub state-requires : goal.state-requires
+state-requires c = (sound_long c.args.r.now c.requires.0, omega (arith, few_banks c.args.r.now c.requires.0))
+
+pub line_of_two-requires : goal.line_of_two-requires
+unfolding bank_line
+line_of_two-requires c = rw c.state.ensures c.requires.2
+
+pub returns : goal.returns
+unfolding bank_line
+returns c = rw (← c.state.ensures) c.line_of_two.ensures

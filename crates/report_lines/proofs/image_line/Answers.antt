@@ -1,0 +1,26 @@
+-- `image_line` meets its contract. Assumes nothing.
+use native.Mathlib.Omega.{arith}
+use Rattle.record_layout.proofs.Sound.{sound_sized, sound_long}
+use Rattle.report_lines.proofs.Known.{few_banks, few_images}
+use Rattle.report_lines.specs.Lines.{image_line}
+use Rattle.report_lines.proofs.image_line.Goals as goal
+
+pub bank_count-requires : goal.bank_count-requires
+bank_count-requires c = sound_long c.args.r.now c.requires.0
+
+pub accepted_word-flag-requires : goal.accepted_word-flag-requires
+accepted_word-flag-requires c = (rw c.bank_count.ensures (sound_sized c.args.r.now c.requires.0), c.requires.1, omega (arith, c.bank_count.ensures, c.requires.2))
+
+pub overflow_cast-i : goal.overflow_cast-i
+overflow_cast-i c = omega (arith, few_images c.args.r.now c.requires.0, few_banks c.args.r.now c.requires.0)
+
+pub overflow_cast-b : goal.overflow_cast-b
+overflow_cast-b c = omega (arith, few_images c.args.r.now c.requires.0, few_banks c.args.r.now c.requires.0)
+
+pub line_of_three-requires : goal.line_of_three-requires
+unfolding image_line
+line_of_three-requires c = rw c.accepted_word-flag.ensures c.requires.3
+
+pub returns : goal.returns
+unfolding image_line
+returns c = rw (← c.accepted_word-flag.ensures) c.line_of_three.ensures

@@ -1,0 +1,12 @@
+-- What the report's entry answers lies in the slice that it was lent.
+use Rattle.std.proofs.Common.{◌≤◌, length, length-take-le, sym}
+use Rattle.report.proofs.Whole.{report_within}
+use Rattle.test_report.proofs.print.Goals as goal
+
+pub slice_bounds-text-end : goal.slice_bounds-text-end
+slice_bounds-text-end g c = report_within _ _ c.report-m.new.out c.report-m.result c.report-m.ensures
+
+pub slice_bounds-write_all-end : goal.slice_bounds-write_all-end
+slice_bounds-write_all-end g c =
+    let within : c.report-m.result ≤ length c.report-m.new.out = report_within _ _ c.report-m.new.out c.report-m.result c.report-m.ensures in
+    sym (length-take-le c.report-m.result c.report-m.new.out within)
