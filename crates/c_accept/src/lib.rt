@@ -1,6 +1,8 @@
 // The way in from C and Rust (include/meanderpeg.h): the calls Accept and Select previous. Each passes and answers as
 // those of crate `c_begin` do, an array of 16 bytes as a pointer.
 // Parted from its neighbours for the prover: each must-fail edit proves its whole crate again.
+#![tactic(auto)]
+
 ghost use Rattle.std.specs.Prelude.{◌≡◌};
 ghost use Rattle.update_changes.specs.Changed.{accept, select_previous};
 ghost use Rattle.c_answer.specs.Answers.{exported};

@@ -1,4 +1,6 @@
 // An answer as C has it (X3; include/meanderpeg.h): one struct, by value, for start-up, repair and the six calls.
+#![tactic(auto)]
+
 ghost use Rattle.std.specs.Prelude.{◌≡◌};
 ghost use Rattle.refusals.specs.Number.{number_of, values_of};
 ghost use Rattle.update_session.specs.Outcome.{outcome_of};
@@ -12,7 +14,7 @@ use update_session::Answer;
 // The refusal's number, 0 for none (N104); what it tells beside; the session that is next, or with a refusal the one
 // given; how many pairs are listed.
 #[repr(C)]
-#[derive(Drop)]
+#[derive(Clone, Copy)]
 pub struct AnswerNumbers {
     pub refusal: u32,
     pub told: [u32; 2],

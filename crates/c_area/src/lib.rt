@@ -1,6 +1,8 @@
 // The way in from C and Rust (include/meanderpeg.h): what an area holds. A slice passes as a pointer and a length, a
 // number behind a reference as a pointer. A refused soundness sets nothing (X5); the report of a refused area is its
 // line (T6).
+#![tactic(auto)]
+
 ghost use Rattle.std.specs.Prelude.{◌≡◌, length};
 ghost use Rattle.record_layout.specs.Layout.{area_size};
 ghost use Rattle.report.specs.Report.{report_in};

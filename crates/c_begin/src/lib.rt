@@ -2,6 +2,8 @@
 // length; the session and the answer are structs by value (X1 to X4). Each call lists its stores in `out`, which a
 // refusal leaves as it was (N105).
 // Parted from its neighbours for the prover: each must-fail edit proves its whole crate again.
+#![tactic(auto)]
+
 ghost use Rattle.std.specs.Prelude.{◌≡◌};
 ghost use Rattle.update_changes.specs.Changed.{begin, cancel};
 ghost use Rattle.c_answer.specs.Answers.{exported};

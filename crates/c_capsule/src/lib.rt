@@ -1,5 +1,7 @@
 // The way in from C and Rust (include/meanderpeg.h): the check of a whole capsule. A slice passes as a pointer and a
 // length, an array behind a reference as a pointer.
+#![tactic(auto)]
+
 ghost use Rattle.std.specs.Prelude.{◌≡◌, [], ◌∷◌};
 ghost use Rattle.capsule_check.specs.Verdict.{verdict};
 ghost use Rattle.capsule_counts.specs.Count.{driver_count, payload_count};

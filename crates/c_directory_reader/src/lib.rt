@@ -1,5 +1,7 @@
 // The way in from C and Rust (include/meanderpeg.h): the check of an image directory, with what its header shows. A
 // slice passes as a pointer and a length, an array behind a reference as a pointer.
+#![tactic(auto)]
+
 ghost use Rattle.std.specs.Prelude.{◌≡◌, [], ◌∷◌};
 ghost use Rattle.refusal_order.specs.Decide.{decide, reply};
 ghost use Rattle.directory_reader.specs.Reader.{reader_tests, shown_images, shown_correct_boot};

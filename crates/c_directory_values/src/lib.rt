@@ -3,6 +3,8 @@
 // Each function returns 0 and sets what is shown, past the image count the empty part at the slice's start or zeros
 // (I10); or returns the refusal, N43 to N46, and sets nothing (X5).
 // The clauses ask the tests twice: in `reply`, and in what is shown, whose branch for a refusal is dead there.
+#![tactic(auto)]
+
 ghost use Rattle.std.specs.Prelude.{◌≡◌};
 ghost use Rattle.fields.specs.Part.{start_and_length};
 ghost use Rattle.refusal_order.specs.Decide.{decide, reply};

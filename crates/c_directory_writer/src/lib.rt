@@ -1,5 +1,7 @@
 // The way in from C and Rust (include/meanderpeg.h): writing an image directory. A slice passes as a pointer and a
 // length, a number behind a reference as a pointer.
+#![tactic(auto)]
+
 ghost use Rattle.std.specs.Prelude.{◌≡◌};
 ghost use Rattle.directory_writer.specs.Writer.{written};
 ghost use Rattle.c_reply.specs.Replied.{replied};

@@ -1,5 +1,7 @@
 // The way in from C and Rust (include/meanderpeg.h): gathering. A slice passes as a pointer and a length, an array
 // behind a reference as a pointer.
+#![tactic(auto)]
+
 ghost use Rattle.std.specs.Prelude.{◌≡◌};
 ghost use Rattle.gather.specs.Gather.{gathered};
 ghost use Rattle.c_gather.specs.Gather.{exported_place};

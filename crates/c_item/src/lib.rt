@@ -1,6 +1,8 @@
 // The way in from C and Rust (include/meanderpeg.h): a capsule's items. A slice passes as a pointer and a length, an
 // array behind a reference as a pointer.
 // Parted from its neighbours for the prover: each must-fail edit proves its whole crate again.
+#![tactic(auto)]
+
 ghost use Rattle.std.specs.Prelude.{◌≡◌, [], ◌∷◌, ◌-◌, ◌≤◌};
 ghost use Rattle.capsule_check.specs.Verdict.{item_verdict};
 ghost use Rattle.capsule_check.specs.Item.{located};

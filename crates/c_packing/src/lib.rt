@@ -1,5 +1,7 @@
 // The way in from C and Rust (include/meanderpeg.h): packing a capsule. A slice passes as a pointer and a length, a
 // number behind a reference as a pointer. The tables are C's arrays of structs, by their bytes.
+#![tactic(auto)]
+
 ghost use Rattle.std.specs.Prelude.{◌≡◌};
 ghost use Rattle.capsule_contents.specs.Lent.{lent};
 ghost use Rattle.capsule_packing_rules.specs.Rules.{sized};

@@ -1,4 +1,6 @@
 // A session as C has it (X1; include/meanderpeg.h): three numbers, by value.
+#![tactic(auto)]
+
 ghost use Rattle.std.specs.Prelude.{◌≡◌};
 ghost use Rattle.c_session.specs.Numbers.{no_session, session_named, numbers_of};
 
@@ -7,7 +9,7 @@ use update_session::Session;
 // The kind is 0 for none, 1 Regular, 2 Staging, 3 Trial, 4 Fallback, 5 Restart; bank and set are Staging's (S1), 0 with
 // any other kind that is made (X1).
 #[repr(C)]
-#[derive(Drop)]
+#[derive(Clone, Copy)]
 pub struct SessionNumbers {
     pub kind: u32,
     pub bank: u32,

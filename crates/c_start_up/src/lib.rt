@@ -1,5 +1,7 @@
 // The way in from C and Rust (include/meanderpeg.h): start-up and repair. A slice passes as a pointer and a length; the
 // answer is a struct by value (X3). A refusal leaves the store slice as it was (N105).
+#![tactic(auto)]
+
 ghost use Rattle.std.specs.Prelude.{◌≡◌};
 ghost use Rattle.update_start_up.specs.StartUp.{start_up_of};
 ghost use Rattle.update_repair.specs.Repair.{repaired};

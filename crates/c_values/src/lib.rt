@@ -2,6 +2,8 @@
 // and a length, a number or an array behind a reference as a pointer.
 // Each function returns 0 and sets its value; or returns the refusal, N10 to N16, and sets nothing (X5).
 // Each clause asks the verdict twice: in `repliedBy`, and in what it gives, whose branch for a refusal is dead there.
+#![tactic(auto)]
+
 ghost use Rattle.std.specs.Prelude.{◌≡◌};
 ghost use Rattle.capsule_check.specs.Verdict.{item_verdict};
 ghost use Rattle.capsule_check.specs.Item.{located};

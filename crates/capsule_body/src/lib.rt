@@ -1,5 +1,7 @@
 // The rules on a capsule's body with the list of offsets, and where its items lie (C6 to C12). Each rule is a function
 // that answers what its definition says.
+#![tactic(auto)]
+
 ghost use Rattle.std.specs.Prelude.{◌≡◌, true, ◌+◌, ◌*◌, ◌<◌, ◌≤◌, length};
 ghost use Rattle.capsule_body.specs.Body.{all, items, offset, offset_right, body_right, item_end};
 ghost use Rattle.capsule_body.specs.Body.{item as item_bytes};

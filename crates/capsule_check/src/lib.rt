@@ -1,5 +1,7 @@
 // The check of a whole capsule, and where an item of a faultless one lies. It reads the header, the list of offsets and
 // the payload headers and no byte of an image, so its cost does not grow with the images' size.
+#![tactic(auto)]
+
 ghost use Rattle.std.specs.Prelude.{◌≡◌};
 ghost use Rattle.capsule_check.specs.Verdict.{verdict};
 ghost use Rattle.capsule_check.specs.Item.{located};
@@ -10,7 +12,7 @@ use capsule_payloads::payloads_right;
 use refusal_order::Verdict;
 
 // An item, by its start and its end in the capsule; or why there is none.
-#[derive(Drop)]
+#[derive(Clone, Copy)]
 pub enum Item {
     Driver { start: usize, end: usize },
     Payload { start: usize, end: usize },

@@ -1,5 +1,7 @@
 // What is lent to the packer of capsules: tables of drivers and payloads, entry by entry (C26, C27). These functions
 // serve the packer, which counts the entries first; those that read an entry ask that it lies in its table.
+#![tactic(auto)]
+
 ghost use Rattle.std.specs.Prelude.{◌≡◌, ◌+◌, ◌*◌, ◌≤◌, ◌<◌, leb, length};
 ghost use Rattle.capsule_contents.specs.Lent.{start_at, length_at, driver_at, payload_at, drivers_in, payloads_in};
 ghost use Rattle.capsule_contents.specs.Sizes.{cap, size_cap, payload_size, item_size};

@@ -1,5 +1,7 @@
 // How many items of each kind a capsule has (C25). Both entries check the whole capsule first and have no condition: a
 // refused one answers 0, and `capsule_items::refusal` says which refusal it was.
+#![tactic(auto)]
+
 ghost use Rattle.std.specs.Prelude.{◌≡◌};
 ghost use Rattle.capsule_check.specs.Verdict.{verdict};
 ghost use Rattle.capsule_counts.specs.Count.{driver_count, payload_count};
@@ -8,7 +10,7 @@ use capsule_header::body_of;
 use refusal_order::Verdict;
 
 // How many items of each kind; or none, and why.
-#[derive(Drop)]
+#[derive(Clone, Copy)]
 pub struct Counts {
     pub verdict: Verdict,
     pub drivers: usize,

@@ -1,5 +1,7 @@
 // The rules on a capsule's own header, and where its body starts (C1 to C6). Each is a function that answers what its
 // definition says.
+#![tactic(auto)]
+
 ghost use Rattle.std.specs.Prelude.{◌≡◌, true, ◌≤◌, length};
 ghost use Rattle.capsule_header.specs.Header.{sizes_right, flags_right, guid_right, body};
 

@@ -2,6 +2,8 @@
 // first and has no condition: a refused one answers the empty part at the capsule's start, and `refusal` says which
 // refusal it was, or none, for the same capsule and item number. What an item holds is handed out by crate
 // capsule_parts.
+#![tactic(auto)]
+
 ghost use Rattle.std.specs.Prelude.{◌≡◌};
 ghost use Rattle.refusal_order.specs.Decide.{verdict_number};
 ghost use Rattle.capsule_check.specs.Verdict.{refusal_number};

@@ -1,5 +1,7 @@
 // The capsule's bytes, put at the front of the output slice step by step (C28 to C30): what comes before the list of
 // offsets, the list, the items. The packer has tested parts, size and room; each function asks that of its caller.
+#![tactic(auto)]
+
 ghost use Rattle.std.specs.Prelude.{◌≡◌, true, ◌+◌, ◌*◌, ◌≤◌, ◌<◌, length};
 ghost use Rattle.fields.specs.Number.{put};
 ghost use Rattle.fields.specs.Joined.{joined};

@@ -1,5 +1,7 @@
 // The packer of capsules (C26 to C32): a capsule of tight form from drivers, images and vendor codes in three slices.
 // Refusals 50 to 57.
+#![tactic(auto)]
+
 ghost use Rattle.std.specs.Prelude.{◌≡◌};
 ghost use Rattle.capsule_contents.specs.Lent.{lent};
 ghost use Rattle.capsule_packing_rules.specs.Rules.{packed_reply};

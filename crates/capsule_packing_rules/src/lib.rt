@@ -1,4 +1,6 @@
 // The packer's tests 50 to 56, and the size of the capsule that would be packed.
+#![tactic(auto)]
+
 ghost use Rattle.std.specs.Prelude.{◌≡◌, ◌+◌, ◌<◌};
 ghost use Rattle.refusal_order.specs.Decide.{decide, decision_of};
 ghost use Rattle.capsule_body.specs.Body.{all};
@@ -22,7 +24,7 @@ use refusals::Refusal;
 pub const FRONT: usize = 36;
 
 // How many bytes, or the refusal.
-#[derive(Drop)]
+#[derive(Clone, Copy)]
 pub enum Packed {
     Length(usize),
     Refused(Refusal),

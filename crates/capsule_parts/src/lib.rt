@@ -1,6 +1,8 @@
 // The parts of a capsule's items: a payload's image and vendor code (C19, C20). Both entries check the whole capsule
 // first and have no condition: a refused one answers the empty part at the capsule's start, and
 // `capsule_items::refusal` says which refusal it was.
+#![tactic(auto)]
+
 ghost use Rattle.std.specs.Prelude.{◌≡◌, true, ◌+◌, ◌^◌, ◌<◌, length};
 ghost use Rattle.capsule_payloads.specs.Payload.{image_start, image_end, vendor_code_end, payload_right};
 ghost use Rattle.capsule_check.specs.Verdict.{item_verdict};
@@ -14,7 +16,7 @@ use refusal_order::Verdict;
 
 // Where the parts of an item lie in the capsule: the image from `image` up to `code`, the vendor code from there up to
 // `end`; or all 0, and why.
-#[derive(Drop)]
+#[derive(Clone, Copy)]
 pub struct Places {
     pub verdict: Verdict,
     pub image: usize,

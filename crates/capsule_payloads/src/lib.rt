@@ -1,5 +1,7 @@
 // The rules on a capsule's payload headers (C14 to C16). Each is a function that answers what its definition says. No
 // byte of an image is read.
+#![tactic(auto)]
+
 ghost use Rattle.std.specs.Prelude.{◌≡◌, true};
 ghost use Rattle.capsule_body.specs.Body.{body_right};
 ghost use Rattle.capsule_payloads.specs.Payload.{version_right, header_length, payload_right, payloads_right};

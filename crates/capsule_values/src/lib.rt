@@ -1,6 +1,8 @@
 // The values shown of a payload item: its type GUID, image index and hardware instance (C21). Every entry checks the
 // whole capsule first and has no condition: a refused one answers 0 or zeros, and `capsule_items::refusal` says which
 // refusal it was.
+#![tactic(auto)]
+
 ghost use Rattle.std.specs.Prelude.{◌≡◌, true, replicate};
 ghost use Rattle.capsule_payloads.specs.Payload.{payload_right, type_guid, image_index, hardware_instance};
 ghost use Rattle.capsule_check.specs.Verdict.{item_verdict};
@@ -11,7 +13,7 @@ use capsule_check::Item;
 use refusal_order::Verdict;
 
 // All that is shown of an item; with a refusal zeros, and why.
-#[derive(Drop)]
+#[derive(Clone, Copy)]
 pub struct Values {
     pub verdict: Verdict,
     pub guid: [u8; 16],

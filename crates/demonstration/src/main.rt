@@ -8,10 +8,14 @@
 // capsule has one driver and one payload of version 2, cut into three blocks that lie apart, with a jump behind the
 // first descriptor; the payload's type GUID is that of image 0; every image is accepted in both banks, bank 0 is active
 // and bank 1 previous. The check (.ci/run) runs the program and not the script.
+#![tactic(auto)]
+
 mod parts;
 mod steps;
 
 use parts::text;
+use reading::read_full;
+use std::io;
 use steps::{repaired, started, step};
 use update_session::Session;
 
@@ -19,31 +23,46 @@ use update_session::Session;
 const ALL: usize = 2100;
 
 // Begin, Commit of the image with that type GUID, and End, of which only so many stores are done.
-fn update(a: &mut [u8], session: Session, guid: [u8; 16], most: usize) {
-    let begun = step(a, b'B', session, guid, ALL);
-    let committed = step(a, b'C', begun, guid, ALL);
-    step(a, b'E', committed, guid, most);
+fn update(
+    rt: &impl Print,
+    a: &mut [u8],
+    session: Session,
+    guid: [u8; 16],
+    most: usize,
+) -> io::Result<()> {
+    let begun = step(rt, a, b'B', session, guid, ALL)?;
+    let committed = step(rt, a, b'C', begun, guid, ALL)?;
+    step(rt, a, b'E', committed, guid, most)?;
+    Ok(())
 }
 
 // A session is lost with the power: behind each cut or restart, start-up tells it anew.
-fn updates(a: &mut [u8], guid: [u8; 16]) {
-    text(b"\nAn update. Power fails after 5 stores of its last call.\n");
-    let first = started(a, 0);
-    update(a, first, guid, 5);
+fn updates(rt: &impl Print, a: &mut [u8], guid: [u8; 16]) -> io::Result<()> {
     text(
+        rt,
+        b"\nAn update. Power fails after 5 stores of its last call.\n",
+    )?;
+    let first = started(rt, a, 0)?;
+    update(rt, a, first, guid, 5)?;
+    text(
+        rt,
         b"\nPower is back. Copy 0 is half written: the old record is read, from copy 1, and repaired.\n",
-    );
-    started(a, 0);
-    repaired(a);
-    text(b"\nThe same update again, with all of its stores. The next start is in the new bank.\n");
-    let again = started(a, 0);
-    update(a, again, guid, ALL);
-    started(a, 1);
+    )?;
+    started(rt, a, 0)?;
+    repaired(rt, a)?;
+    text(
+        rt,
+        b"\nThe same update again, with all of its stores. The next start is in the new bank.\n",
+    )?;
+    let again = started(rt, a, 0)?;
+    update(rt, a, again, guid, ALL)?;
+    started(rt, a, 1)?;
+    Ok(())
 }
 
-fn main() {
-    let guid = parts::read_capsule();
+fn main(rt: HostRuntime) -> io::Result<()> {
+    let guid = parts::read_capsule(&rt)?;
     let mut area = [0u8; 16384];
-    io::read_full(0, &mut area);
-    updates(&mut area, guid);
+    read_full(&mut rt.reader(), &mut area)?;
+    updates(&rt, &mut area, guid)
 }

@@ -1,5 +1,7 @@
 // The entries of the directory that is written (I6, I7), put into the output slice. The writer has tested the record,
 // the booted bank, the caller's words and the room; each function asks that of its caller.
+#![tactic(auto)]
+
 ghost use Rattle.std.specs.Prelude.{◌≡◌, true, ◌+◌, ◌*◌, ◌≤◌, ◌<◌, length};
 ghost use Rattle.fields.specs.Number.{put};
 ghost use Rattle.record_layout.specs.Layout.{bank_count, image_count};

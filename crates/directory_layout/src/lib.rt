@@ -1,5 +1,7 @@
 // The image directory's layout (I1 to I4): its lengths and where its fields stand. What it holds and its bytes are
 // defined in specs/; it is written and read in the crates above.
+#![tactic(auto)]
+
 ghost use Rattle.std.specs.Prelude.{◌≡◌};
 ghost use Rattle.directory_layout.specs.Layout.{permissions_right};
 

@@ -2,6 +2,8 @@
 // Every function that the product offers here checks the whole directory first and has no condition. `refusal` says
 // which refusal it was; the others then answer 0. What an entry of the directory shows is handed out by crate
 // directory_values.
+#![tactic(auto)]
+
 ghost use Rattle.std.specs.Prelude.{◌≡◌, ◌≤◌, ◌<◌, length};
 ghost use Rattle.refusal_order.specs.Decide.{decide, decision_of};
 ghost use Rattle.record_layout.specs.Layout.{image_limit};

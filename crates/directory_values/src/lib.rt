@@ -2,6 +2,8 @@
 // functions that the product offers check the whole directory first and have no condition: with a refusal, and past the
 // image count, they answer the empty part at the slice's start, or zeros; `directory_reader::refusal` says which refusal
 // it was, `directory_reader::image_count` how many entries there are.
+#![tactic(auto)]
+
 ghost use Rattle.std.specs.Prelude.{◌≡◌};
 ghost use Rattle.fields.specs.Part.{IsPart, range_of};
 ghost use Rattle.refusal_order.specs.Decide.{decide, passed};
@@ -18,7 +20,7 @@ use fields::{Span, part_of, read32};
 use refusal_order::Verdict;
 
 // The five numbers of an entry; the second and third are its maximum size and lowest accepted version.
-#[derive(Drop)]
+#[derive(Clone, Copy)]
 pub struct Numbers {
     pub permissions: u32,
     pub maximum: u32,

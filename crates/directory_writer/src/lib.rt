@@ -1,5 +1,7 @@
 // The writer of an image directory (I5 to I8): what is installed, by the record read, the booted bank and the caller's
 // words. Refusals 20, 21, 28 as start-up gives them, then 40, 41, 42.
+#![tactic(auto)]
+
 ghost use Rattle.std.specs.Prelude.{◌≡◌, true, ◌*◌, ◌≤◌, ◌<◌, length};
 ghost use Rattle.fields.specs.Number.{put};
 ghost use Rattle.refusal_order.specs.Decide.{decide, decision_of, passed};
@@ -23,7 +25,7 @@ use update_session::Session;
 use update_start_up::{Started, session_from};
 
 // How many bytes were written, or the refusal.
-#[derive(Drop)]
+#[derive(Clone, Copy)]
 pub enum Written {
     Length(usize),
     Refused(Refusal),

@@ -1,6 +1,8 @@
 // Numbers of 16, 32 and 64 bits, little-endian (N101), GUIDs, and parts of another slice, put into byte slices: numbers
 // and GUIDs as crate fields reads them. These functions serve the crates above, which have tested where a field stands;
 // each asks that of its caller.
+#![tactic(auto)]
+
 ghost use Rattle.std.specs.Prelude.{◌≡◌, ◌+◌, ◌*◌, ◌≤◌, length};
 ghost use Rattle.fields.specs.Number.{bytes, put, words_bytes};
 ghost use Rattle.fields.specs.Guid.{guid};

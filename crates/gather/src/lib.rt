@@ -1,4 +1,6 @@
 // Gathering a capsule that lies scattered in a memory window (G1 to G17). The entry is `gather`: refusals 1 to 7.
+#![tactic(auto)]
+
 ghost use Rattle.std.specs.Prelude.{◌≡◌, ◌+◌, ◌^◌, ◌≤◌, length, take};
 ghost use Rattle.gather_descriptors.specs.Reading.{whole};
 ghost use Rattle.gather_descriptors.specs.Scratch.{AllReadable, lengths};
@@ -10,7 +12,7 @@ use gather_place::{Place, find_place};
 use refusals::Refusal;
 
 // The place's address and how many bytes stand there; or the refusal.
-#[derive(Drop)]
+#[derive(Clone, Copy)]
 pub enum Gathered {
     Refused(Refusal),
     Placed { address: u64, total: u64 },

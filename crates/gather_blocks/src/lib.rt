@@ -1,4 +1,6 @@
 // The copy of a scattered list's blocks, in list order, to the place that gathering found (G13, G14).
+#![tactic(auto)]
+
 ghost use Rattle.std.specs.Prelude.{◌≡◌, true, ◌⊎◌, ◌+◌, ◌≤◌, length, take, drop};
 ghost use Rattle.fields.specs.Number.{put};
 ghost use Rattle.gather_descriptors.specs.Reading.{length_of};

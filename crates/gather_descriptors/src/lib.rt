@@ -1,5 +1,7 @@
 // The scattered list of descriptors (G2 to G11): refusals 1 to 5. The code goes by offsets in the window, the
 // definitions by addresses (crate gather_window).
+#![tactic(auto)]
+
 ghost use Rattle.std.specs.Prelude.{◌≡◌, ◌+◌, ◌-◌, ◌^◌, ◌≤◌, length};
 ghost use Rattle.gather_descriptors.specs.Reading.{jump_or_end, walk, reading};
 ghost use Rattle.gather_descriptors.specs.Scratch.{ScratchHolds};
@@ -15,7 +17,7 @@ pub const DESCRIPTOR_LIMIT: usize = 256;
 const TOTAL_LIMIT: u64 = 16777216;
 
 // What reading a list gives: a refusal, or how many descriptors it has and what their lengths add up to.
-#[derive(Drop)]
+#[derive(Clone, Copy)]
 pub enum Read {
     Refused(Refusal),
     Whole { count: usize, total: u64 },

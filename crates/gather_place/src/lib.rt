@@ -1,6 +1,8 @@
 // The place for the gathered blocks: the lowest free start (G12). Where the range at a start shares a byte with a block
 // or a descriptor, so does the range at every start up to that one's end. So only the window's start and ends of blocks
 // and descriptors are tried, each once: at most 512 starts (G16).
+#![tactic(auto)]
+
 ghost use Rattle.std.specs.Prelude.{◌≡◌, not, ◌+◌, ◌^◌, ◌≤◌, ◌<◌, length, take};
 ghost use Rattle.gather_descriptors.specs.Scratch.{Readable, AllReadable};
 ghost use Rattle.gather_place.specs.Place.{apart, clear_of, clear_of_all, place_for};
@@ -10,7 +12,7 @@ use fields::read64;
 use gather_descriptors::DESCRIPTOR_LIMIT;
 
 // The address of the lowest free start, or that there is none.
-#[derive(Drop)]
+#[derive(Clone, Copy)]
 pub enum Place {
     At(u64),
     Nowhere,

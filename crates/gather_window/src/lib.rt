@@ -1,5 +1,7 @@
 // The memory window (G1): what lies in it. Addresses can reach 2^64, so the code goes by offsets in the window; the
 // definitions go by addresses.
+#![tactic(auto)]
+
 ghost use Rattle.std.specs.Prelude.{◌≡◌, ◌+◌, not};
 ghost use Rattle.gather_window.specs.Window.{past_window_end, within, descriptor_fits};
 

@@ -1,1 +1,2 @@
 // What an accepted call tells (specs/CallResults.antt). There is no code here.
+#![tactic(auto)]

@@ -1,1 +1,2 @@
 // One history of start-ups, repairs and calls: specs/History.antt. There is no code here.
+#![tactic(auto)]

@@ -2,6 +2,8 @@
 // the numbers that stand in the slice at exit, what crates/proof_power_cuts/specs/PowerCuts.antt says. That is their
 // whole purpose: no other crate uses them, and the device calls the entries themselves. Nothing is asked of the
 // arguments.
+#![tactic(auto)]
+
 ghost use Rattle.update_changes.specs.Changed.{begin, commit, end, cancel, accept, select_previous};
 ghost use Rattle.update_session.specs.Outcome.{outcome_of};
 ghost use Rattle.update_repair.specs.Repair as repairs;
@@ -62,14 +64,14 @@ pub fn select_previous(session: Session, area: &[u8], out: &mut [u32]) -> Answer
 
 // Repair.
 pub fn repair(area: &[u8], out: &mut [u32]) -> Repaired
-    ensures { TiedRepair area.now out.old (repairs.repairReply result) out.new }
+    ensures { TiedRepair area.now out.old (repairs.repair_reply result) out.new }
 {
     update_repair::repair(area, out)
 }
 
 // Start-up.
 pub fn start_up(area: &[u8], booted: u32) -> Started
-    ensures { TiedStartUp area.now booted (starts.startReply result) }
+    ensures { TiedStartUp area.now booted (starts.start_reply result) }
 {
     update_start_up::start_up(area, booted)
 }

@@ -1,5 +1,7 @@
 // A record with some of its words and its CRC anew (S17). The new record stands nowhere in memory: each of its words is
 // told from the old record and the alteration.
+#![tactic(auto)]
+
 ghost use Rattle.std.specs.Prelude.{◌≡◌, true};
 ghost use Rattle.fields.specs.Guid.{same};
 ghost use Rattle.fields.specs.Number.{le};
@@ -16,7 +18,7 @@ use record_layout::{
 
 // What a call alters: the words of active, previous and the bank states, and the accepted word of `count` images from
 // `first` on in one bank.
-#[derive(Drop)]
+#[derive(Clone, Copy)]
 pub struct Alteration {
     pub active: u32,
     pub previous: u32,

@@ -1,4 +1,6 @@
 // The two copies of the record in an area: which is read, the record in it, and whether they are equal (R20, R21).
+#![tactic(auto)]
+
 ghost use Rattle.std.specs.Prelude.{◌≡◌, ◌≢◌, true, ◌≤◌, length};
 ghost use Rattle.fields.specs.Guid.{same};
 ghost use Rattle.record_layout.specs.Layout.{area_size, copy_size, copy_at, copy0, record_of};
@@ -10,7 +12,7 @@ use record_layout::{COPY, record_at, record_in_copy0, record_in_copy1};
 use record_soundness::sound_record;
 
 // The copy that is read.
-#[derive(Drop)]
+#[derive(Clone, Copy)]
 pub enum Source {
     Copy0,
     Copy1,

@@ -1,6 +1,8 @@
 // The stores that put an altered record into one copy (R28): the version spoilt, the words that differ, the version set
 // right. Every word is told anew for each copy; nothing is kept.
 // Parted from record_store_lists for the prover: each must-fail edit proves its whole crate again.
+#![tactic(auto)]
+
 ghost use Rattle.std.specs.Prelude.{◌≡◌, ◌+◌, ◌-◌, ◌/◌, ◌≤◌, length};
 ghost use Rattle.record_layout.specs.Layout.{area_size, copy_size, copy_at};
 ghost use Rattle.record_layout.specs.Rules.{crc_of};

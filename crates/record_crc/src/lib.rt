@@ -1,4 +1,6 @@
 // CRC-32 (R4), by a table of 256 numbers (R29): one lookup a byte, for eight steps of the division.
+#![tactic(auto)]
+
 ghost use Rattle.std.specs.Prelude.{◌≡◌};
 ghost use Rattle.fields.specs.Number.{bytes};
 ghost use Rattle.record_crc.specs.Crc.{with_byte, with_bytes, crc32_of};

@@ -1,5 +1,7 @@
 // The rules of soundness on the words and type GUIDs of a record's image entries (R13, R15, R16). The counts and the
 // length have been tested (`Sized`) before anything here reads an entry.
+#![tactic(auto)]
+
 ghost use Rattle.std.specs.Prelude.{◌≡◌, not, ◌+◌, ◌*◌, ◌≤◌, ◌<◌, length};
 ghost use Rattle.fields.specs.Guid.{same, guid_every};
 ghost use Rattle.record_layout.specs.Every.{below, distinct};

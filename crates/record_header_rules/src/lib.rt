@@ -1,5 +1,7 @@
 // The rules of soundness on the record's header (R6 to R12, R14). Each is a function that answers what its definition
 // says.
+#![tactic(auto)]
+
 ghost use Rattle.std.specs.Prelude.{◌≡◌, ◌≤◌, length};
 ghost use Rattle.record_layout.specs.Layout.{header_size};
 ghost use Rattle.record_layout.specs.Rules.{version_rule, bank_count_rule, image_count_rule, bank_entry_size_rule};

@@ -1,6 +1,8 @@
 // The record's layout (R1 to R3): the record in a copy and in each copy of an area, its fields by name, where an
 // image's entry stands in it, and its accepted word in a bank. A record is a slice of the area's own bytes; nothing is
 // copied. The rules of soundness are defined here, and tested in the crates above.
+#![tactic(auto)]
+
 ghost use Rattle.std.specs.Prelude.{◌≡◌, ◌+◌, ◌≤◌, ◌<◌, length};
 ghost use Rattle.fields.specs.Number.{le};
 ghost use Rattle.record_layout.specs.Layout.{area_size, copy_size, copy_at, copy0, copy1};

@@ -1,4 +1,6 @@
 // Whether a copy is sound (R5): R6 to R19, in their order.
+#![tactic(auto)]
+
 ghost use Rattle.std.specs.Prelude.{◌≡◌, ◌≤◌, length};
 ghost use Rattle.record_layout.specs.Layout.{header_size};
 ghost use Rattle.record_layout.specs.Rules.{crc_rule, sound, sound_copy};

@@ -1,5 +1,7 @@
 // The rules of soundness on a record's bank states and on what is accepted in each bank (R17, R18). The counts and the
 // length have been tested (`Sized`) before anything here reads an entry.
+#![tactic(auto)]
+
 ghost use Rattle.std.specs.Prelude.{◌≡◌, ◌<◌};
 ghost use Rattle.fields.specs.Number.{le};
 ghost use Rattle.record_layout.specs.Layout.{active_at};

@@ -1,6 +1,8 @@
 // The stores that put a record into copies (R26 to R28): an altered one into both, and by repair the one that is read
 // into the other. One writer lists them (crate record_copy_stores), over where the words come from: a repair alters
 // nothing.
+#![tactic(auto)]
+
 ghost use Rattle.std.specs.Prelude.{◌≡◌, ◌≢◌, ◌≤◌, length};
 ghost use Rattle.record_layout.specs.Layout.{area_size, copy0, record_of};
 ghost use Rattle.record_copies.specs.Copies.{source_of};

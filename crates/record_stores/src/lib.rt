@@ -1,4 +1,6 @@
 // Lists of stores (R22, R23): pairs (offset, word), in a lent slice of 32-bit numbers.
+#![tactic(auto)]
+
 ghost use Rattle.std.specs.Prelude.{[], ◌∷◌, ◌+◌, ◌*◌, ◌≤◌, length};
 ghost use Rattle.record_layout.specs.Layout.{copy_size};
 ghost use Rattle.record_stores.specs.Added.{Added, word_store};

@@ -1,8 +1,10 @@
 // Every refusal, with its number (N1 to N57).
+#![tactic(auto)]
+
 ghost use Rattle.std.specs.Prelude.{◌≡◌};
 ghost use Rattle.refusals.specs.Number.{number_of};
 
-#[derive(Drop)]
+#[derive(Clone, Copy)]
 pub enum Refusal {
     // The window's end lies above 2^64.
     WindowEnd,

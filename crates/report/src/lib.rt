@@ -1,4 +1,6 @@
 // The report (T1 to T7): an area's record as lines of text, in a lent slice.
+#![tactic(auto)]
+
 ghost use Rattle.std.specs.Prelude.{◌≡◌};
 ghost use Rattle.refusals.specs.Number.{number_of};
 ghost use Rattle.report_text.specs.Wrote.{Room, Wrote};

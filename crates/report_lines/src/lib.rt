@@ -1,4 +1,6 @@
 // The report's lines of a sound record (T2 to T5), in a lent slice.
+#![tactic(auto)]
+
 ghost use Rattle.std.specs.Prelude.{◌≡◌, true, ◌<◌};
 ghost use Rattle.record_layout.specs.Layout.{bank_count, image_count};
 ghost use Rattle.record_layout.specs.Rules.{sound};

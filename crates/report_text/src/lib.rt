@@ -1,4 +1,6 @@
 // Lines of text in a lent slice: a word, then numbers in decimal, each behind a tab, and a line feed (T1).
+#![tactic(auto)]
+
 ghost use Rattle.std.specs.Prelude.{◌≡◌, [], ◌∷◌, ◌<◌};
 ghost use Rattle.report_text.specs.Text.{tab, digit_of, decimal, numbers, line};
 ghost use Rattle.report_text.specs.Wrote.{Room, Wrote};

@@ -1,4 +1,6 @@
 // The functions a, o, s and t of crate test_functions, over lists of stores and over areas.
+#![tactic(auto)]
+
 use c_area::{meanderpeg_report, meanderpeg_soundness};
 use test_machine::answers::answer;
 use test_machine::bytes::{digest, digest_bytes, store};
@@ -44,7 +46,7 @@ pub fn apply(m: &mut [u8], out: &[u32], pairs: usize, size: usize) -> u64 {
     }
     let mut i = 0;
     while i < pairs {
-        count = std::num::wrapping_add_u64(count, done(m, out, i, size));
+        count = count.wrapping_add(done(m, out, i, size));
         i += 1;
     }
     count

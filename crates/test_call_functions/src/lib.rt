@@ -1,5 +1,7 @@
 // The functions u, r and c of crate test_functions, over start-up, repair and the six calls. A kind in a script is one
 // less than C's.
+#![tactic(auto)]
+
 use c_accept::{meanderpeg_accept, meanderpeg_select_previous};
 use c_answer::AnswerNumbers;
 use c_begin::{meanderpeg_begin, meanderpeg_cancel};
@@ -32,7 +34,7 @@ fn altered(out: &[u32], pairs: usize) -> u64 {
     let mut count: u64 = 0;
     let mut i = pairs % 4294967296 * 2;
     while i < out.len() {
-        count = std::num::wrapping_add_u64(count, differs(out[i]));
+        count = count.wrapping_add(differs(out[i]));
         i += 1;
     }
     count
@@ -66,7 +68,7 @@ fn call(
 // The session in answers 1 to 3, as C numbers it.
 fn session_before(m: &[u8]) -> SessionNumbers {
     SessionNumbers {
-        kind: std::num::wrapping_add_u32(low(load(m, ANSWERS + 8, 8)), 1),
+        kind: low(load(m, ANSWERS + 8, 8)).wrapping_add(1),
         bank: low(load(m, ANSWERS + 16, 8)),
         set: low(load(m, ANSWERS + 24, 8)),
     }
@@ -82,7 +84,7 @@ fn kind_after(which: u64, number: u32, kind: u32) -> u32 {
             return kind ^ RESTART;
         }
     }
-    std::num::wrapping_sub_u32(kind, 1)
+    kind.wrapping_sub(1)
 }
 
 fn wide(n: u32) -> u64 {

@@ -1,4 +1,6 @@
 // The functions g, p and q of crate test_functions, over gathering and capsules.
+#![tactic(auto)]
+
 use c_capsule::meanderpeg_capsule_check;
 use c_gather::meanderpeg_gather;
 use c_image::meanderpeg_capsule_image;

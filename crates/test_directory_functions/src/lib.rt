@@ -1,4 +1,6 @@
 // The functions w and i of crate test_functions, over image directories.
+#![tactic(auto)]
+
 use c_directory_reader::meanderpeg_directory_check;
 use c_directory_values::{meanderpeg_directory_numbers, meanderpeg_directory_type_guid};
 use c_directory_writer::meanderpeg_directory_write;

@@ -30,6 +30,10 @@
 //                            functions leave them, each 99 before
 // A session's kind, bank and set are 32-bit numbers, given as they are; with a refusal they are what the call left
 // there. Where a length is past m or out, nothing is done.
+#![tactic(auto)]
+
+use reading::read_full;
+use std::io;
 use test_area_functions::{apply, report, soundness};
 use test_call_functions::entry;
 use test_capsule_functions::{gather, parts, told_of_item};
@@ -62,30 +66,37 @@ fn function(w: &mut [u64; 256], m: &mut [u8], out: &mut [u32], c: u8) {
 }
 
 // Runs a script that was prepared, at most 2^40 orders of it.
-fn run(text: &[u8], w: &mut [u64; 256], m: &mut [u8], out: &mut [u32]) {
+fn run(
+    rt: &impl Print,
+    text: &[u8],
+    w: &mut [u64; 256],
+    m: &mut [u8],
+    out: &mut [u32],
+) -> io::Result<()> {
     let mut fuel: u64 = 1099511627776;
     while 0 < fuel {
-        let c = test_machine::step(text, w, m);
+        let c = test_machine::step(rt, text, w, m)?;
         if c == test_machine::ENDED {
-            return;
+            return Ok(());
         }
         function(w, m, out, c);
         fuel -= 1;
     }
+    Ok(())
 }
 
 // Runs a script from its start, with a memory of 256 KiB and a store slice of 4,300 numbers.
-fn start(text: &mut [u8]) {
+fn start(rt: &impl Print, text: &mut [u8]) -> io::Result<()> {
     let mut w = [0u64; 256];
     let mut m = [0u8; 262144];
     let mut out = [0u32; 4300];
     test_machine::prepare(text, &mut w);
-    run(text, &mut w, &mut m, &mut out);
+    run(rt, text, &mut w, &mut m, &mut out)
 }
 
 // The whole of a test program: the script on standard input.
-pub fn play() {
+pub fn play(rt: &(impl Print + Input)) -> io::Result<()> {
     let mut text = [0u8; 65536];
-    let n = io::read_full(0, &mut text);
-    start(&mut text[..n]);
+    let n = read_full(&mut rt.reader(), &mut text)?;
+    start(rt, &mut text[..n])
 }

@@ -34,8 +34,12 @@
 // to 191 (where to go on, and how many turns are left, 0 for a procedure), procedures' positions at 192 to 255. Both
 // stacks are rings: past the end they go on at the beginning. No letter names the words below. A text between quotes
 // has no `#`, `[`, `(`, `)` or `]` in it.
+#![tactic(auto)]
+
 pub mod answers;
 pub mod bytes;
+
+use std::io;
 
 const POSITION: usize = 0;
 
@@ -70,7 +74,7 @@ fn times(a: u64, b: u64) -> u64 {
     let x = a % 4294967296;
     let y = b % 4294967296;
     let crossed = (a / 4294967296 * y) % 4294967296 + (b / 4294967296 * x) % 4294967296;
-    std::num::wrapping_add_u64(crossed % 4294967296 * 4294967296, x * y)
+    (crossed % 4294967296 * 4294967296).wrapping_add(x * y)
 }
 
 fn truth(t: bool) -> u64 {
@@ -79,8 +83,8 @@ fn truth(t: bool) -> u64 {
 
 fn calculated(c: u8, a: u64, b: u64) -> u64 {
     match c {
-        b'+' => std::num::wrapping_add_u64(a, b),
-        b'-' => std::num::wrapping_sub_u64(a, b),
+        b'+' => a.wrapping_add(b),
+        b'-' => a.wrapping_sub(b),
         b'*' => times(a, b),
         b'/' => if b == 0 { 0 } else { a / b },
         b'%' => if b == 0 { 0 } else { a % b },
@@ -130,7 +134,7 @@ fn digit(w: &mut [u64; 256], c: u8) {
     }
     w[NUMBER] = at;
     let top = 64 + ((w[DEPTH] % 64 + 63) % 64) as usize;
-    w[top] = std::num::wrapping_add_u64(times(w[top], 10), (c % 16) as u64);
+    w[top] = times(w[top], 10).wrapping_add((c % 16) as u64);
 }
 
 // Behind the end of what is open at `from`.
@@ -138,8 +142,8 @@ fn past(text: &[u8], from: usize, open: u8, close: u8) -> usize {
     let mut depth: u64 = 1;
     let mut i = from;
     while i < text.len() {
-        let opened = std::num::wrapping_add_u64(depth, truth(text[i] == open));
-        depth = std::num::wrapping_sub_u64(opened, truth(text[i] == close));
+        let opened = depth.wrapping_add(truth(text[i] == open));
+        depth = opened.wrapping_sub(truth(text[i] == close));
         i += 1;
         if depth == 0 {
             return i;
@@ -210,18 +214,18 @@ fn memory(w: &mut [u64; 256], m: &mut [u8], c: u8) {
 }
 
 // Prints the text up to the next quote.
-fn quote(text: &[u8], w: &mut [u64; 256]) {
+fn quote(rt: &impl Print, text: &[u8], w: &mut [u64; 256]) -> io::Result<()> {
     let at = w[POSITION] as usize;
     let end = past(text, at, 0, b'"');
     w[POSITION] = end as u64;
     if text.len() < end {
-        return;
+        return Ok(());
     }
     if end <= at {
-        return;
+        return Ok(());
     }
     let last = end - 1;
-    io::write_all(1, &text[at..last]);
+    rt.write_all(&text[at..last])
 }
 
 // An order over the top of the stack and, where it has two numbers, the one below it.
@@ -241,7 +245,7 @@ fn calculate(w: &mut [u64; 256], c: u8) {
     push(w, calculated(c, a, b));
 }
 
-fn order(text: &[u8], w: &mut [u64; 256], m: &mut [u8], c: u8) {
+fn order(rt: &impl Print, text: &[u8], w: &mut [u64; 256], m: &mut [u8], c: u8) -> io::Result<()> {
     match c {
         0..=b' ' => {}
         b'0'..=b'9' => digit(w, c),
@@ -255,12 +259,14 @@ fn order(text: &[u8], w: &mut [u64; 256], m: &mut [u8], c: u8) {
         }
         b'(' | b')' | b'[' | b']' | b'.' | b'#' => control(text, w, c),
         b'@' | b'$' => memory(w, m, c),
-        b'"' => quote(text, w),
+        b'"' => quote(rt, text, w)?,
         b';' => {
-            io::print_decimal(1, pop(w));
+            let n = pop(w);
+            print!(rt; "{n}")?;
         }
         _ => calculate(w, c),
     }
+    Ok(())
 }
 
 // A function of the machine's own with three numbers, over bytes. A value is copied on from the first byte.
@@ -273,12 +279,7 @@ fn over(w: &mut [u64; 256], m: &mut [u8], c: u8) {
         b'z' => {
             if 0 < y {
                 bytes::store(m, z as usize, 1, x);
-                bytes::copy(
-                    m,
-                    z as usize,
-                    std::num::wrapping_add_usize(z as usize, 1),
-                    y - 1,
-                );
+                bytes::copy(m, z as usize, (z as usize).wrapping_add(1), y - 1);
             }
         }
         b'm' => bytes::copy(m, z as usize, y, x as usize),
@@ -287,7 +288,7 @@ fn over(w: &mut [u64; 256], m: &mut [u8], c: u8) {
 }
 
 // The functions of the machine's own.
-fn function(w: &mut [u64; 256], m: &mut [u8], c: u8) -> u8 {
+fn function(rt: &impl Print, w: &mut [u64; 256], m: &mut [u8], c: u8) -> io::Result<u8> {
     match c {
         b'x' => start(w),
         b'f' | b'z' | b'm' | b'b' => over(w, m, c),
@@ -302,25 +303,26 @@ fn function(w: &mut [u64; 256], m: &mut [u8], c: u8) -> u8 {
             push(w, bytes::digest(d, n));
         }
         b'h' => {
-            io::print_hex(1, pop(w), 8);
+            let n = pop(w);
+            print!(rt; "{n:08x}")?;
         }
-        _ => return c,
+        _ => return Ok(c),
     }
-    RAN
+    Ok(RAN)
 }
 
-// Runs the order at the position.
-pub fn step(text: &[u8], w: &mut [u64; 256], m: &mut [u8]) -> u8 {
+// Runs the order at the position. It fails only where that order prints and the text does not get out.
+pub fn step(rt: &impl Print, text: &[u8], w: &mut [u64; 256], m: &mut [u8]) -> io::Result<u8> {
     let c = next(text, w);
     if c == 0 {
-        return ENDED;
+        return Ok(ENDED);
     }
     if c == b'~' {
         let name = next(text, w);
-        return function(w, m, name);
+        return function(rt, w, m, name);
     }
-    order(text, w, m, c);
-    RAN
+    order(rt, text, w, m, c)?;
+    Ok(RAN)
 }
 
 // Looks at the character at i, behind a comment's beginning (1) or not (0), and answers which it is then.
@@ -337,8 +339,8 @@ fn look(s: &mut [u8], w: &mut [u64; 256], i: usize, comment: u8) -> u8 {
         return 1;
     }
     if c == b'[' {
-        let name = (bytes::byte(s, std::num::wrapping_add_usize(i, 1)) % 64) as usize;
-        w[192 + name] = std::num::wrapping_add_u64(i as u64, 2);
+        let name = (bytes::byte(s, i.wrapping_add(1)) % 64) as usize;
+        w[192 + name] = (i as u64).wrapping_add(2);
     }
     0
 }

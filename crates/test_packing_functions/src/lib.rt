@@ -1,4 +1,6 @@
 // The function y of crate test_functions, over packing a capsule.
+#![tactic(auto)]
+
 use c_packing::{meanderpeg_capsule_pack, meanderpeg_capsule_packed_size};
 use test_machine::answers::answer;
 use test_machine::bytes::{byte, load, part, store};
@@ -48,7 +50,7 @@ fn told(m: &mut [u8], numbers: [u32; 2], lengths: [usize; 2], out: &[u8; 10000])
 }
 
 // How much is lent of each slice and table.
-#[derive(Drop)]
+#[derive(Clone, Copy)]
 struct Lent {
     flags: u32,
     drivers: usize,

@@ -1,6 +1,10 @@
 // Random inputs for every entry, and digests of what the exported functions answer. The file stdin is a script for
 // crate test_functions, which makes the inputs of second/GENERATORS.md; the file stdout is what the second
 // implementation (second/) prints for the same seed.
-fn main() {
-    test_functions::play();
+#![tactic(auto)]
+
+use std::io;
+
+fn main(rt: HostRuntime) -> io::Result<()> {
+    test_functions::play(&rt)
 }

@@ -1,25 +1,27 @@
 // The reports of the sample areas in data/: each file's name, then its report, as print_report prints it.
 // bench/report/main.rs made the files and says what is in them.
+#![tactic(auto)]
+
+use reading::read_full;
+use std::io::Read;
+use std::rt::Files;
+use std::{fs, io};
 
 // What print_report does with its standard input.
-fn print(fd: i32) {
+fn print<R: Read>(rt: &impl Print, file: &mut R) -> io::Result<()> {
     let mut area = [0u8; 16385];
-    let n = io::read_full(fd, &mut area);
+    let n = read_full(file, &mut area)?;
     let mut text = [0u8; 4096];
     let m = report::report(&area[..n], &mut text);
-    io::write_all(1, &text[..m]);
+    rt.write_all(&text[..m])
 }
 
-fn show(name: &[u8]) {
-    io::write_all(1, name);
-    io::write_all(1, b"\n");
-    let fd = os::open_read(name);
-    if fd < 0 {
-        os::fail(name);
-        return;
+fn show(rt: &(impl Print + Eprint + Files), name: &str) -> io::Result<()> {
+    println!(rt; "{name}")?;
+    match fs::open(rt, name) {
+        Ok(mut file) => print(rt, &mut file),
+        Err(e) => eprintln!(rt; "{name}: {e}"),
     }
-    print(fd);
-    libc::close(fd);
 }
 
 fn wide(x: u8) -> u64 {
@@ -27,24 +29,22 @@ fn wide(x: u8) -> u64 {
 }
 
 // A slice that is too short for some report: the answer, and the first byte as it was.
-fn short_slice() {
+fn short_slice(rt: &impl Print) -> io::Result<()> {
     let area = [0u8; 0];
     let mut text = [7u8; 4095];
-    io::write_all(1, b"slice of 4095\n");
-    io::print_decimal(1, report::report(&area, &mut text) as u64);
-    io::write_all(1, b" ");
-    io::print_decimal(1, wide(text[0]));
-    io::write_all(1, b"\n");
+    println!(rt; "slice of 4095")?;
+    let answer = report::report(&area, &mut text);
+    println!(rt; "{answer} {}", wide(text[0]))
 }
 
-fn main() {
-    show(b"example");
-    show(b"four_banks");
-    show(b"copy_0_spoilt");
-    show(b"copies_differ");
-    show(b"both_spoilt");
-    show(b"one_byte_short");
-    show(b"one_byte_long");
-    show(b"empty");
-    short_slice();
+fn main(rt: HostRuntime) -> io::Result<()> {
+    show(&rt, "example")?;
+    show(&rt, "four_banks")?;
+    show(&rt, "copy_0_spoilt")?;
+    show(&rt, "copies_differ")?;
+    show(&rt, "both_spoilt")?;
+    show(&rt, "one_byte_short")?;
+    show(&rt, "one_byte_long")?;
+    show(&rt, "empty")?;
+    short_slice(&rt)
 }

@@ -1,5 +1,7 @@
 // What every call tests of the area and the store slice before it looks at its session: 20, 23, 21 and 22 (N110). The
 // tests themselves, which start-up, repair, the report and the directory's writer list too, are in specs/Rows.antt.
+#![tactic(auto)]
+
 ghost use Rattle.std.specs.Prelude.{◌≡◌};
 ghost use Rattle.refusal_order.specs.Decide.{decide, decision_of};
 ghost use Rattle.update_admission.specs.Rows.{area_tests};

@@ -1,4 +1,6 @@
 // What each change alters in the record (S6, S8, S10, S13, S16), as words.
+#![tactic(auto)]
+
 ghost use Rattle.std.specs.Prelude.{◌≡◌, true, cond, ◌<◌, eqb};
 ghost use Rattle.fields.specs.Number.{le};
 ghost use Rattle.record_layout.specs.Layout.{state_at, active, bank_count, image_count};

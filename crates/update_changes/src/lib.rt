@@ -1,6 +1,8 @@
 // What is asked of a record to tell what a call alters in it (S4 to S16): the image with a type GUID, the update bank,
 // and what the record says once one of its fields is anew. A record is a slice of the area's own bytes; nothing is
 // copied.
+#![tactic(auto)]
+
 ghost use Rattle.std.specs.Prelude.{◌≡◌, true, ◌+◌, ◌*◌, ◌<◌, eqb, length};
 ghost use Rattle.fields.specs.Number.{le};
 ghost use Rattle.record_layout.specs.Layout.{bank_limit, accepted, active, previous, state, state_at, bank_count, image_count};
@@ -15,7 +17,7 @@ use record_layout::{
 
 // What a call alters in the record: nothing; or what the call's rule says, by image and not by GUID. The record that
 // each makes is `changedBy` of specs/Changed.antt.
-#[derive(Drop)]
+#[derive(Clone, Copy)]
 pub enum Change {
     Nothing,
     Begin,

@@ -1,5 +1,7 @@
 // The set of committed images (S1): whether a Staging session's bank and set fit a record (N24), and how many images
 // the set lacks (N27).
+#![tactic(auto)]
+
 ghost use Rattle.std.specs.Prelude.{◌≡◌, true, ◌<◌, ◌^◌};
 ghost use Rattle.record_layout.specs.Layout.{image_count};
 ghost use Rattle.record_layout.specs.Rules.{sound};

@@ -1,4 +1,6 @@
 // Repair (R27): the stores that put the record read into the other copy. Refusals 20, 23, 21.
+#![tactic(auto)]
+
 ghost use Rattle.std.specs.Prelude.{◌≡◌};
 ghost use Rattle.update_repair.specs.Repair.{repair_reply, repaired};
 
@@ -9,7 +11,7 @@ use record_stores::STORE_NUMBERS;
 use refusals::Refusal;
 
 // How many pairs repair listed, or the refusal.
-#[derive(Drop)]
+#[derive(Clone, Copy)]
 pub enum Repaired {
     Listed(usize),
     Refused(Refusal),

@@ -1,6 +1,8 @@
 // The session, the answer of the calls, and the six calls (S1, S5 to S18). Each call tests in the order of N110: what
 // is tested for every session first, once and before the call looks at which session it is, then its own; a refusal
 // hands the session back as it was, with no list.
+#![tactic(auto)]
+
 ghost use Rattle.std.specs.Prelude.{◌≡◌, true, ◌<◌};
 ghost use Rattle.record_layout.specs.Layout.{image_count};
 ghost use Rattle.record_layout.specs.Rules.{sound};
@@ -21,7 +23,7 @@ use update_changes::{Change, all_accepted_after, image_of, previous_accepted, up
 use update_committed_set::{missing_images, staged, with_image};
 
 // The five session states; Staging with its bank and the set of committed images (S1).
-#[derive(Drop)]
+#[derive(Clone, Copy)]
 pub enum Session {
     Regular,
     Staging { bank: u32, set: u32 },
@@ -31,7 +33,7 @@ pub enum Session {
 }
 
 // The next session, or on a refusal the session as it was; the verdict; and how many pairs stand in the store list.
-#[derive(Drop)]
+#[derive(Clone, Copy)]
 pub struct Answer {
     pub session: Session,
     pub verdict: Verdict,

@@ -1,4 +1,6 @@
 // Start-up (S2): the session that an area and the booted bank give. Refusals 20, 21, 28.
+#![tactic(auto)]
+
 ghost use Rattle.std.specs.Prelude.{◌≡◌, true};
 ghost use Rattle.record_layout.specs.Rules.{sound};
 ghost use Rattle.update_start_up.specs.StartUp.{start_reply, started_from, start_up_of};
@@ -9,7 +11,7 @@ use refusals::Refusal;
 use update_session::Session;
 
 // The session that start-up gives, or the refusal and none.
-#[derive(Drop)]
+#[derive(Clone, Copy)]
 pub enum Started {
     In(Session),
     Refused(Refusal),
