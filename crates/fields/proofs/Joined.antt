@@ -1,7 +1,7 @@
 -- Lists of one length, one behind another: what stands at a place. Lists of any length: the whole by what stands at
 -- each place. Then entries, each a GUID and 32-bit numbers, behind a header. Assumes nothing.
 use mathlib.Core.Path.{◌≡◌, refl, sym, ap, ◌∙◌}
-use mathlib.Core.List.{List, [], ◌++◌, append_assoc, append-nil}
+use mathlib.Core.List.{List, ◌++◌, append_assoc, append-nil}
 use mathlib.Core.Logic.{⊎_elim}
 use Prim.Native.Nat.{ℕ, zero, suc, ◌+◌, ◌*◌, ◌≤◌, ◌<◌}
 use native.Mathlib.Nat.{add-zero, suc-mul, zero-mul, one-mul, add-mul, mul-le-mul_right}

@@ -1,5 +1,4 @@
 -- `body_of` meets its contract: the header ends in the capsule. Assumes nothing.
-use Prim.Native.Nat.{◌-◌}
 use native.Mathlib.Omega.{arith}
 use Rattle.capsule_header.specs.Header.{header_size}
 use Rattle.capsule_header.proofs.Header.{header_in, body_rest}
