@@ -2,7 +2,7 @@
 // bench/report/main.rs made the files and says what is in them.
 #![tactic(auto)]
 
-use reading::read_full;
+use reading::fill;
 use std::io::Read;
 use std::rt::Files;
 use std::{fs, io};
@@ -10,7 +10,7 @@ use std::{fs, io};
 // What print_report does with its standard input.
 fn print<R: Read>(rt: &impl Print, file: &mut R) -> io::Result<()> {
     let mut area = [0u8; 16385];
-    let n = read_full(file, &mut area)?;
+    let (n, _) = fill(file, &mut area);
     let mut text = [0u8; 4096];
     let m = report::report(&area[..n], &mut text);
     rt.write_all(&text[..m])

@@ -8,5 +8,7 @@ slice_bounds-text-end g c = report_within _ _ c.report-m.new.out c.report-m.resu
 
 pub slice_bounds-write_all-end : goal.slice_bounds-write_all-end
 slice_bounds-write_all-end g c =
-    let within : c.report-m.result ≤ length c.report-m.new.out = report_within _ _ c.report-m.new.out c.report-m.result c.report-m.ensures in
-    sym (length-take-le c.report-m.result c.report-m.new.out within)
+    let m = c.report-m.result in
+    let text = c.report-m.new.out in
+    let within : m ≤ length text = report_within _ _ text m c.report-m.ensures in
+    sym (length-take-le m text within)

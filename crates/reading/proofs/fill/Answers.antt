@@ -6,7 +6,7 @@ use Rattle.std.specs.Io.KnownBytes.{Consumes}
 use Rattle.std.proofs.KnownBytes.{Consumes-trans}
 use borrow.Rule.Slice.PartMut.{put_mid, post_of}
 use lib.Seq.{take-add, take-append-le}
-use Rattle.reading.proofs.read_full.Goals as goal
+use Rattle.reading.proofs.fill.Goals as goal
 
 -- the first a bytes, and those from a to b
 take_split : (a b : ℕ) (old new : List ℕ) → a ≤ b → take a new ≡ take a old → take a old ++ slice_range new a b ≡ take b new
@@ -28,8 +28,8 @@ loop-done-preserved g c =
     let from = c.loop-done.done in
     let room = length c.loop-done.buf - from in
     let within = c.loop-done.invariant.within in
-    let n = c.in_ok-n.n in
-    let part = slice_range-put_mid from room n c.loop-done.buf c.read.new.buf within c.in_ok-n.ensures.bound.0 in
+    let n = c.in-Ok.n in
+    let part = slice_range-put_mid from room n c.loop-done.buf c.read.new.buf within c.in-Ok.ensures.bound.0 in
     let new = put_mid from room c.loop-done.buf c.read.new.buf in
     let front = take-put_mid_below _ _ _ _ _ (le_refl _) within in
     let joined = take_split from (from + n) c.loop-done.buf new (omega arith) front in
@@ -37,5 +37,5 @@ loop-done-preserved g c =
       within = search rules;
       same_length = search rules;
       bytes = subst (Consumes _ _) (ap (λ l. take from c.loop-done.buf ++ l) (sym part) ∙ joined)
-          (Consumes-trans _ _ _ _ _ c.loop-done.invariant.bytes c.in_ok-n.ensures.bytes.0);
+          (Consumes-trans _ _ _ _ _ c.loop-done.invariant.bytes c.in-Ok.ensures.bytes.0);
     }
