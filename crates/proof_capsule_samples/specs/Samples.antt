@@ -45,9 +45,9 @@ unfolding le bytes guid version type_guid image_index hardware_instance
 payload_shown = (refl, refl, refl)
 
 -- the bytes that are handed out: the image, then the vendor code
-payload_bytes_lem : (part sample 95 97 ≡ 0xa1 ∷ 0xa2 ∷ []) × (part sample 97 98 ≡ 0xb1 ∷ [])
+payload_bytes : (part sample 95 97 ≡ 0xa1 ∷ 0xa2 ∷ []) × (part sample 97 98 ≡ 0xb1 ∷ [])
 unfolding bytes
-payload_bytes_lem = (refl, refl)
+payload_bytes = (refl, refl)
 
 -- the rule on flags (C4)
 flag_rule : (flags_right 0x00040000 ≡ false) × (flags_right 0x00050000 ≡ true)
