@@ -131,7 +131,7 @@
 #define MEANDERPEG_VERSION_MAJOR 0
 #define MEANDERPEG_VERSION_MINOR 5
 #define MEANDERPEG_VERSION_PATCH 0
-#define MEANDERPEG_VERSION "0.5.0"
+#define MEANDERPEG_VERSION "0.4.0"
 
 /* ---- Whether the archive fits, and what this compiler knows ---- */
 
