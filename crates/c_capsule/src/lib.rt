@@ -11,7 +11,7 @@ use refusal_order::Verdict;
 
 // Checks a whole capsule (C1 to C16). Returns 0 and sets how many drivers and payloads it has (C25); or returns the
 // refusal, N10 to N15, and sets nothing (X5). The array of two has the layout of C's struct meanderpeg_counts.
-// The clause asks the verdict twice: in `repliedBy`, and in what it gives, whose branch for a refusal is dead there.
+// The clause asks the verdict twice: in `replied_by`, and in what it gives, whose branch for a refusal is dead there.
 #[unsafe(no_mangle)]
 pub extern "C" fn meanderpeg_capsule_check(s: &[u8], counts: &mut [usize; 2]) -> u32
     ensures { (result, counts.new) ≡ replied_by (verdict s.now)

@@ -1,5 +1,5 @@
-// The static library of crate c_image for C and Rust: its functions under the names of include/meanderpeg.h, with the same
-// clauses.
+// The static library of crate c_image for C and Rust: its functions, with the same clauses, under the names that
+// include/meanderpeg.h has.
 #![tactic(auto)]
 
 ghost use Rattle.std.specs.Prelude.{◌≡◌};
@@ -11,7 +11,7 @@ ghost use Rattle.c_reply.specs.Replied.{replied_by};
 
 // Returns 0 and sets where the image of item k lies (C19): start and length (X6); or returns the refusal, N10 to N16,
 // and sets nothing (X5). The array of two has the layout of C's struct meanderpeg_part.
-// The clause asks the verdict twice: in `repliedBy`, and in what it gives, whose branch for a refusal is dead there.
+// The clause asks the verdict twice: in `replied_by`, and in what it gives, whose branch for a refusal is dead there.
 #[unsafe(no_mangle)]
 pub extern "C" fn meanderpeg_capsule_image(s: &[u8], k: usize, part: &mut [usize; 2]) -> u32
     ensures { (result, part.new) ≡ replied_by (item_verdict s.now k)

@@ -23,7 +23,7 @@ fn set_part(part: &mut [usize; 2], start: usize, end: usize) -> u32
 
 // Returns 0 and sets where the whole item k lies (C18): start and length (X6); or returns the refusal, N10 to N16, and
 // sets nothing (X5). The array of two has the layout of C's struct meanderpeg_part.
-// The clause asks the verdict twice: in `repliedBy`, and in what it gives, whose branch for a refusal is dead there.
+// The clause asks the verdict twice: in `replied_by`, and in what it gives, whose branch for a refusal is dead there.
 #[unsafe(no_mangle)]
 pub extern "C" fn meanderpeg_capsule_item(s: &[u8], k: usize, part: &mut [usize; 2]) -> u32
     ensures { (result, part.new) ≡ replied_by (item_verdict s.now k)

@@ -1,5 +1,5 @@
-// The static library of crate c_start_up for C and Rust: its functions under the names of include/meanderpeg.h, with the same
-// clauses.
+// The static library of crate c_start_up for C and Rust: its functions, with the same clauses, under the names that
+// include/meanderpeg.h has.
 #![tactic(auto)]
 
 ghost use Rattle.std.specs.Prelude.{◌≡◌};

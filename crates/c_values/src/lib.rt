@@ -1,7 +1,7 @@
 // The way in from C and Rust (include/meanderpeg.h): the values shown of a capsule's items. A slice passes as a pointer
 // and a length, a number or an array behind a reference as a pointer.
 // Each function returns 0 and sets its value; or returns the refusal, N10 to N16, and sets nothing (X5).
-// Each clause asks the verdict twice: in `repliedBy`, and in what it gives, whose branch for a refusal is dead there.
+// Each clause asks the verdict twice: in `replied_by`, and in what it gives, whose branch for a refusal is dead there.
 #![tactic(auto)]
 
 ghost use Rattle.std.specs.Prelude.{◌≡◌};
