@@ -97,20 +97,20 @@
  * This is about the archive for x86-64 Linux. For firmware there are two others, which use neither vector registers nor
  * a red zone: `c/library --target aarch64` (little-endian, 64-bit pointers, aligned accesses alone, the compiler's own
  * calling convention) and `--target x86_64-firmware`. They ask for memcpy and memset, and want at most 26,832 bytes of
- * stack for meanderpeg_gather and 1,784 for any other call; docs/TARGETS.md has the numbers of each.
+ * stack for meanderpeg_gather and 1,840 for any other call; docs/TARGETS.md has the numbers of each.
  *
  *   - x86-64 code in ELF objects, position-independent, for 64-bit pointers and the System V calling convention. Where
  *     a compiler's own convention is another (UEFI and Windows targets), the declarations below ask for this one.
  *   - It asks for memset, by the same convention, and for nothing else; it has no data and no bss.
- *   - It uses the red zone: up to 128 bytes below the stack pointer hold values during a call. Where interrupts come
+ *   - It uses the red zone: up to 44 bytes below the stack pointer hold values during a call. Where interrupts come
  *     in on the same stack (firmware, kernels: what is compiled with -mno-red-zone), mask them during a call (in UEFI
  *     RaiseTPL to TPL_HIGH_LEVEL), give their handlers a stack of their own (IST), or link the archive for firmware.
  *   - It uses xmm0 and xmm1, so SSE must be enabled, and an interrupt handler that uses them must save them; the
  *     archive for firmware does not. No x87, no AVX.
  *   - Bytes of stack that a call uses at most; what memset uses comes on top:
  *
- *       meanderpeg_gather                     26,880    meanderpeg_report                      1,216
- *       meanderpeg_capsule_check                  64    meanderpeg_start_up                    1,216
+ *       meanderpeg_gather                     26,944    meanderpeg_report                      1,216
+ *       meanderpeg_capsule_check                 128    meanderpeg_start_up                    1,216
  *       meanderpeg_capsule_item                  128    meanderpeg_repair                      1,216
  *       meanderpeg_capsule_image                 128    meanderpeg_begin                       2,368
  *       meanderpeg_capsule_vendor_code           128    meanderpeg_commit                      1,408

@@ -12,7 +12,8 @@ use crate::session::*;
 use crate::report::{report, report_in, REPORT_BYTES};
 
 /// The entries, by name, in the order in which they are reported. The last has no place in the comparison with
-/// crates/test_random, which asks for soundness instead: the product's interface tells no failing rule's number.
+/// crates/test_random_packing, which asks for soundness instead: the product's interface tells no failing rule's
+/// number.
 pub const ENTRIES: [&str; 18] = [
     "gather",
     "capsule",
@@ -34,7 +35,7 @@ pub const ENTRIES: [&str; 18] = [
     "rules",
 ];
 
-/// How many thousands of inputs the comparison with crates/test_random takes of an entry.
+/// How many thousands of inputs the comparison with crates/test_random_packing takes of an entry.
 pub fn thousands(entry: &str) -> u64 {
     match entry {
         "gather" | "capsule" => 40,

@@ -19,6 +19,13 @@ pub struct Run {
     pub err: String,
 }
 
+/// The gate stops at a link anywhere in the repository's folder, in target/ too.
+impl Drop for Transcript {
+    fn drop(&mut self) {
+        let _ = fs::remove_file(self.folder.join("link"));
+    }
+}
+
 impl Transcript {
     pub fn new(name: &'static str) -> Transcript {
         let folder = Path::new(env!("CARGO_TARGET_TMPDIR")).join(format!("command_{name}"));

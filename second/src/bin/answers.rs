@@ -1,7 +1,7 @@
 //! For each entry: the running digests of all inputs and of all answers after every 1,000 inputs, and how often each
-//! outcome was met; last the number of inputs in all. Without arguments this is what crates/test_random must print.
-//! Arguments: the seed (1), the number of thousands (as in the comparison), an entry's name (all of the comparison).
-//! Where an outcome was not met, or one that isn't told for the entry was, the exit code is 1.
+//! outcome was met; last the number of inputs in all. Without arguments this is what crates/test_random_packing must
+//! print. Arguments: the seed (1), the number of thousands (as in the comparison), an entry's name (all of the
+//! comparison). Where an outcome was not met, or one that isn't told for the entry was, the exit code is 1.
 
 use second::answers::{answer, outcomes, thousands, Account, ENTRIES};
 
