@@ -22,7 +22,7 @@ world a q = record { area = a; session = q }
 abbrev pub event : Act → (s : List ℕ) → Fate → Event
 event act s fate = record { act = act; slice = s; fate = fate }
 
---     read-back, call_lists     a list laid at a slice's front is read back whole
+--     read_back, call_lists     a list laid at a slice's front is read back whole
 --     cut_next .. no_list       how far the stores went: a cut after n, none, all, and where there is none to be done
 --     started .. start_up_area  a start-up leaves the area as it was, and gives the session where it is accepted and
 --                               power holds

@@ -51,7 +51,7 @@ pub is_sound : (a : List ℕ) → source_of a ≢ Neither → (sound_test a).0 �
 unfolding source_of
 is_sound a h = some_sound (sound_copy (copy0 a)) (sound_copy (copy1 a)) h
 
--- ---- start_up
+-- ---- start-up
 from_read : (a : List ℕ) (booted : ℕ) → length a ≡ area_size → source_of a ≢ Neither → start_up_of a booted ≡ started_from (record_read a) booted
 unfolding start_up_of start_up_tests read_tests started_from decide
 from_read a booted l h = rw (eq-eqb (length a) area_size l, is_sound a h)

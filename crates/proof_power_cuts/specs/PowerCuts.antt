@@ -1,5 +1,5 @@
 -- What power cuts leave, as one statement over the change, its cut and the whole list (P1 to P13). It speaks of what
--- the clauses of the six calls, of repair and of start_up say that these answer, of the numbers that stand in the store
+-- the clauses of the six calls, of repair and of start-up say that these answer, of the numbers that stand in the store
 -- slice at exit, and of one history (crates/proof_history). w is a world, a the bytes of an area, s the numbers of a
 -- store slice, q a session, r the bytes of a record, ss a list of stores, n how many of them are done before the cut,
 -- es a list of start-ups and repairs. Assumes nothing.
@@ -39,7 +39,7 @@ pub record Listed (s : List ℕ) (count : ℕ) (out : List ℕ) : Type 0 where
   pub inside : 2 * length (pairs count out) ≤ length s
   pub rest : out ≡ with_list s (pairs count out)
 
--- ---- what start_up reads: the record read, by which it answers for any booted bank (P3)
+-- ---- what start-up reads: the record read, by which it answers for any booted bank (P3)
 pub record Reads (a r : List ℕ) : Type 0 where
   pub one_sound : source_of a ≢ Neither
   pub is : record_read a ≡ r
@@ -90,7 +90,7 @@ pub record QuietLists : Type 0 where
 -- ---- what a list leaves of the world w
 --     long, bytes   an area still, so that more may follow
 --     reads         the same record is read as before it (P10)
---     answers       and start_up answers the same, session or refusal, for any booted bank
+--     answers       and start-up answers the same, session or refusal, for any booted bank
 --     both_hold     once a repair in it has finished, both copies are sound and equal (P11): the list is any list, so
 --                   this holds after each event of a longer one
 pub record Lasts (w : World) (es : List Event) : Type 0 where
