@@ -1,4 +1,5 @@
 -- `header_right` meets its contract: field by field, in the code's order. Assumes nothing.
+use native.Mathlib.Omega.{arith}
 use mathlib.Core.Path.{◌≡◌}
 use mathlib.Core.Bool.{true}
 use lib.Dec.{eqb, leb}
@@ -31,7 +32,7 @@ unfolding header_right
 returns-then-images c =
     let version : eqb (version_in c.args.d.now) directory_version ≡ true = rw (← c.read32.ensures) (eq-eqb _ _ c.if-read32-ne-VERSION.false) in
     let offset : eqb (array_offset_in c.args.d.now) directory_header_size ≡ true = rw (← c.read32-2.ensures) (eq-eqb _ _ c.if-read32.false) in
-    let some : leb 1 (images_in c.args.d.now) ≡ true = rw (← c.read32-images.ensures) (le-leb _ _ c.if-images-lt1.false) in
+    let some : leb 1 (images_in c.args.d.now) ≡ true = rw (← c.read32-images.ensures) (le-leb 1 c.read32-images.result (omega arith)) in
     rw (version, offset, some, ← c.read32-images.ensures, lt-leb _ _ c.if-images.true)
 
 pub returns-then-read32-gt1 : goal.returns-then-read32-gt1
@@ -39,7 +40,7 @@ unfolding header_right
 returns-then-read32-gt1 c =
     let version : eqb (version_in c.args.d.now) directory_version ≡ true = rw (← c.read32.ensures) (eq-eqb _ _ c.if-read32-ne-VERSION.false) in
     let offset : eqb (array_offset_in c.args.d.now) directory_header_size ≡ true = rw (← c.read32-2.ensures) (eq-eqb _ _ c.if-read32.false) in
-    let some : leb 1 (images_in c.args.d.now) ≡ true = rw (← c.read32-images.ensures) (le-leb _ _ c.if-images-lt1.false) in
+    let some : leb 1 (images_in c.args.d.now) ≡ true = rw (← c.read32-images.ensures) (le-leb 1 c.read32-images.result (omega arith)) in
     let few : leb (images_in c.args.d.now) image_limit ≡ true = rw (← c.read32-images.ensures) (le-leb _ _ c.if-images.false) in
     rw (version, offset, some, few, ← c.read32-3.ensures, lt-leb _ _ c.if-read32-gt1.true)
 
@@ -48,7 +49,7 @@ unfolding header_right
 returns-then-read32-2 c =
     let version : eqb (version_in c.args.d.now) directory_version ≡ true = rw (← c.read32.ensures) (eq-eqb _ _ c.if-read32-ne-VERSION.false) in
     let offset : eqb (array_offset_in c.args.d.now) directory_header_size ≡ true = rw (← c.read32-2.ensures) (eq-eqb _ _ c.if-read32.false) in
-    let some : leb 1 (images_in c.args.d.now) ≡ true = rw (← c.read32-images.ensures) (le-leb _ _ c.if-images-lt1.false) in
+    let some : leb 1 (images_in c.args.d.now) ≡ true = rw (← c.read32-images.ensures) (le-leb 1 c.read32-images.result (omega arith)) in
     let few : leb (images_in c.args.d.now) image_limit ≡ true = rw (← c.read32-images.ensures) (le-leb _ _ c.if-images.false) in
     let boot : boolean_right (correct_boot_in c.args.d.now) ≡ true = rw (← c.read32-3.ensures) (le-leb _ _ c.if-read32-gt1.false) in
     rw (version, offset, some, few, boot, ← c.read32-4.ensures, ne_eqb _ _ c.if-read32-2.true)
@@ -58,7 +59,7 @@ unfolding header_right
 returns c =
     let version : eqb (version_in c.args.d.now) directory_version ≡ true = rw (← c.read32.ensures) (eq-eqb _ _ c.if-read32-ne-VERSION.false) in
     let offset : eqb (array_offset_in c.args.d.now) directory_header_size ≡ true = rw (← c.read32-2.ensures) (eq-eqb _ _ c.if-read32.false) in
-    let some : leb 1 (images_in c.args.d.now) ≡ true = rw (← c.read32-images.ensures) (le-leb _ _ c.if-images-lt1.false) in
+    let some : leb 1 (images_in c.args.d.now) ≡ true = rw (← c.read32-images.ensures) (le-leb 1 c.read32-images.result (omega arith)) in
     let few : leb (images_in c.args.d.now) image_limit ≡ true = rw (← c.read32-images.ensures) (le-leb _ _ c.if-images.false) in
     let boot : boolean_right (correct_boot_in c.args.d.now) ≡ true = rw (← c.read32-3.ensures) (le-leb _ _ c.if-read32-gt1.false) in
     let size : eqb (entry_size_in c.args.d.now) directory_entry_size ≡ true = rw (← c.read32-4.ensures) (eq-eqb _ _ c.if-read32-2.false) in
