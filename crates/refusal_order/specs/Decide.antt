@@ -1,10 +1,12 @@
 -- Verdicts, and lists of tests of which the first that finds a fault decides (N104, N110). Each entry's definition
 -- lists its tests in their order. Assumes nothing.
-use Rattle.std.specs.Prelude.{ℕ, Bool, cond, List, [], ◌∷◌}
+use Rattle.std.specs.Prelude.{ℕ, Bool, cond, List, [], ◌∷◌, Result, Ok, Err}
 use Rattle.refusals.specs.Number.{number_of, values_of}
 use Rattle.refusals.specs.declared.Refusal.{Refusal}
-use Rattle.refusal_order.specs.declared.Verdict.{Verdict}
-use Rattle.refusal_order.specs.declared.Verdict.TheVariants.{Passed, Refused}
+
+-- an input passed, or why not
+abbrev pub Verdict : Type 0
+Verdict = Result (Unit {0}) Refusal
 
 -- passed; or the number of the refusal and what it tells beside
 pub data Decision : Type 0 where
@@ -17,13 +19,13 @@ refused r = refusal (number_of r) (values_of r)
 
 -- what each case of a verdict states
 abbrev pub decision_of : Verdict → Decision
-decision_of Passed = passed
-decision_of (Refused r) = refused r
+decision_of (Ok x) = passed
+decision_of (Err r) = refused r
 
 -- its number; 0, which numbers no refusal, where it passed
 abbrev pub verdict_number : Verdict → ℕ
-verdict_number Passed = 0
-verdict_number (Refused r) = number_of r
+verdict_number (Ok x) = 0
+verdict_number (Err r) = number_of r
 
 -- a test: whether there is the fault, and the refusal that is given then
 abbrev pub Test : Type 0
@@ -41,6 +43,11 @@ pub data Reply (A : Type 0) : Type 0 where
 
 abbrev pub refusing : {A : Type 0} → Refusal → Reply A
 refusing r = refuses (number_of r) (values_of r)
+
+-- what each case of an entry's answer states
+abbrev pub reply_of : {A : Type 0} → Result A Refusal → Reply A
+reply_of (Ok x) = gives x
+reply_of (Err r) = refusing r
 
 unfoldable pub reply : {A : Type 0} → Decision → A → Reply A
 reply passed x = gives x

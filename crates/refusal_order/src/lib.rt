@@ -1,4 +1,4 @@
-// Whether an entry passed its input, and if not, why.
+// The number of what an entry answers that gives nothing where it passed its input.
 #![tactic(auto)]
 
 ghost use Rattle.std.specs.Prelude.{◌≡◌};
@@ -6,20 +6,12 @@ ghost use Rattle.refusal_order.specs.Decide.{verdict_number};
 
 use refusals::Refusal;
 
-#[derive(Clone, Copy)]
-pub enum Verdict {
-    Passed,
-    Refused(Refusal),
-}
-
-impl Verdict {
-    // The refusal's number, or 0 for none.
-    pub fn number(self) -> u32
-        ensures { result ≡ verdict_number self }
-    {
-        match self {
-            Verdict::Passed => 0,
-            Verdict::Refused(r) => r.number(),
-        }
+// The refusal's number, or 0 for none.
+pub fn number(verdict: Result<(), Refusal>) -> u32
+    ensures { result ≡ verdict_number verdict }
+{
+    match verdict {
+        Ok(()) => 0,
+        Err(why) => why.number(),
     }
 }
