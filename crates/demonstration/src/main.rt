@@ -29,10 +29,11 @@ fn update(
     guid: [u8; 16],
     most: usize,
 ) -> io::Result<()> {
-    let mut session = started(rt, a, booted)?;
-    step(rt, a, Call::Begin, &mut session, ALL)?;
-    step(rt, a, Call::Commit(guid), &mut session, ALL)?;
-    step(rt, a, Call::End, &mut session, most)
+    let session = started(rt, a, booted)?;
+    let begun = step(rt, a, Call::Begin, session, ALL)?;
+    let committed = step(rt, a, Call::Commit(guid), begun, ALL)?;
+    step(rt, a, Call::End, committed, most)?;
+    Ok(())
 }
 
 // A session is lost with the power: behind each cut or restart, start-up tells it anew.

@@ -71,26 +71,26 @@ fn show_stores(rt: &impl Print, done: usize, all: usize) -> io::Result<()> {
     println!(rt;)
 }
 
-// Makes a call and does the first stores of its list, so many at most.
+// Makes a call and does the first stores of its list, so many at most. The answer is the next session.
 pub fn step(
     rt: &impl Print,
     a: &mut [u8],
     call: Call,
-    session: &mut Session,
+    session: Session,
     most: usize,
-) -> io::Result<()> {
+) -> io::Result<Session> {
     let mut list = [0u32; 4200];
     let answer = match call {
         Call::Begin => session.begin(a, &mut list),
         Call::Commit(guid) => session.commit(a, guid, 0, &mut list),
         Call::End => session.end(a, &mut list),
     };
-    let all = answer.unwrap_or(0);
-    let done = all.min(most);
+    let done = answer.stores.min(most);
     apply(a, &list, done);
     print!(rt; "{call}: ")?;
-    show_answer(rt, answer.map(|_| *session))?;
-    show_stores(rt, done, all)
+    show_answer(rt, answer.verdict.map(|_| answer.session))?;
+    show_stores(rt, done, answer.stores)?;
+    Ok(answer.session)
 }
 
 // Repair with all its stores done. It is given no session and answers none.
