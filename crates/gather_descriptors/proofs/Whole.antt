@@ -10,6 +10,7 @@ use borrow.Author.Tests.{ltb-true, ltb-false, lt-ltb, le-ltb, leb-true, leb-fals
 use lib.Dec.{leb, eqb}
 use lib.ListN.{length, get_or, take}
 use Rattle.fields.proofs.Tests.{positive, no_true, le_or_lt}
+use Rattle.std.specs.Prelude.{Result, Ok, Err}
 use Rattle.refusals.specs.Number.{number_of}
 use Rattle.refusals.specs.declared.Refusal.{Refusal}
 use Rattle.refusals.specs.declared.Refusal.TheVariants.{WindowEnd, DescriptorCount, DescriptorAddress, BlockOutside, TotalLength}
@@ -17,8 +18,7 @@ use Rattle.gather_window.specs.Window.{past_window_end, within, descriptor_fits}
 use Rattle.gather_descriptors.specs.Reading.{Reading, refused, whole, with_descriptor, length_of, address_of, jump_or_end, data_block, walk, reading, descriptor_limit, total_limit}
 use Rattle.gather_descriptors.specs.Law.{Inside, Outside, Link, past_block, by_jump, Links, none, more, Chain, link, end, Placed, Faultless, Fault, too_many, unaligned, not_inside, block_outside, total_passed, FirstFault, past_end, behind, ComesBack, ReadingLaws}
 use Rattle.gather_descriptors.specs.Scratch.{ScratchHolds, AllReadable, lengths}
-use Rattle.gather_descriptors.specs.declared.Read.{Read}
-use Rattle.gather_descriptors.specs.declared.Read.TheVariants.{Refused, Whole}
+use Rattle.gather_descriptors.specs.declared.Listed.{Listed}
 use Rattle.gather_descriptors.proofs.Steps.{rest, walk_more, within_ends, within_of, descriptor_ends, descriptor_aligned, fits_of}
 
 -- ---- the tests, as facts
@@ -393,7 +393,7 @@ reading_laws w B first =
 -- what the crates above go on from
 pub record Found (w : List ℕ) (B t : ℕ) (ds : List ℕ) : Type 0 where
   pub below : B + length w ≤ 2 ^ 64
-  pub readable : AllReadable w B ds (length ds)
+  pub readable : AllReadable w B ds
   pub total : t ≡ lengths w B ds
 
 pub found : (w : List ℕ) (B a t : ℕ) (ds : List ℕ) → reading w B a ≡ whole t ds → Found w B t ds
@@ -422,18 +422,18 @@ refused_early w B a n e = go (fault_law w B a n e)
     go (behind _ _ _ f) = by_fault f
 
 -- the answer and the array decide the reading
-pub was_refused : (X : Reading) (k : ℕ) (old new : List ℕ) (r : Read) (n : Refusal) → ScratchHolds X k old new r → r ≡ Refused n → X ≡ refused n
+pub was_refused : (X : Reading) (k : ℕ) (old new : List ℕ) (n : Refusal) → ScratchHolds X k old new (Err n) → X ≡ refused n
 unfolding ScratchHolds
-was_refused (refused m) k old new r n h e = cc
-was_refused (whole t ds) k old new r n h e = let z = h.0 in let b : ◌≡◌ {A = ℕ} 0 1 = cc in absurd (omega arith)
+was_refused (refused m) k old new n h = cc
+was_refused (whole t ds) k old new n h = let z = h.0 in cc
 
-pub was_whole : (X : Reading) (old new : List ℕ) (r : Read) (n t : ℕ) → ScratchHolds X 0 old new r → r ≡ Whole n t
-    → (X ≡ whole t (take n new)) × (n ≡ length (take n new)) × (length new ≡ length old)
+pub was_whole : (X : Reading) (old new : List ℕ) (l : Listed) → ScratchHolds X 0 old new (Ok l)
+    → (X ≡ whole l.total (take l.count new)) × (l.count ≡ length (take l.count new)) × (length new ≡ length old)
 unfolding ScratchHolds
-was_whole (refused m) old new r n t h e = let b : ◌≡◌ {A = ℕ} 0 1 = cc in absurd (omega arith)
-was_whole (whole T ds) old new r n t h e =
+was_whole (refused m) old new l h = cc
+was_whole (whole T ds) old new l h =
     let z = h.0 in
-    let en : 0 + length ds ≡ n = cc in
-    let et : T ≡ t = cc in
-    let ed : take n new ≡ ds = rw en at h.1 in
+    let en : 0 + length ds ≡ l.count = cc in
+    let et : T ≡ l.total = cc in
+    let ed : take l.count new ≡ ds = rw en at h.1 in
     (rw (et, ed), rw ed (omega arith), h.2)

@@ -1,13 +1,9 @@
 -- `copy_block` meets its contract. Assumes nothing.
 use mathlib.Core.Path.{◌≡◌, sym, ◌∙◌}
-use mathlib.Core.Logic.{◌⊎◌, inl, inr, ⊎_elim}
-use Prim.Native.Nat.{◌+◌, ◌-◌, ◌≤◌}
+use Prim.Native.Nat.{◌+◌, ◌-◌}
 use native.Mathlib.Omega.{arith}
-use lib.ListN.{length}
-use Rattle.gather_descriptors.specs.Reading.{length_of, address_of}
-use Rattle.gather_descriptors.proofs.Steps.{length_at, address_at}
-use Rattle.gather_blocks.specs.Blocks.{block}
-use Rattle.gather_blocks.proofs.Copy.{no_block}
+use Rattle.gather_descriptors.proofs.Steps.{length_at, block_at}
+use Rattle.gather_blocks.proofs.Copy.{no_block, block_put}
 use Rattle.gather_blocks.proofs.copy_block.Goals as goal
 
 pub returns-then-size-eq0 : goal.returns-then-size-eq0
@@ -17,36 +13,27 @@ returns-then-size-eq0 c =
     (sym e, no_block a.w.now a.base a.d a.q e)
 
 pub overflow_sub-from : goal.overflow_sub-from
-overflow_sub-from c =
-    let numbers : (length_of c.args.w.now c.args.base c.args.d ≡ c.read64-size.result) × (address_of c.args.w.now c.args.base c.args.d ≡ c.read64.result) = let a = c.args in (
-      length_at a.w.now a.base a.d ∙ sym c.read64-size.ensures,
-      address_at a.w.now a.base a.d c.requires.readable.low ∙ sym c.read64.ensures,
-    ) in
-    let block_in : (c.args.base ≤ c.read64.result) × (c.read64.result + c.read64-size.result ≤ c.args.base + length c.args.w.now) = let n = numbers in
-    let h = c.requires.readable.block (omega arith) in
-    (omega arith, omega arith) in
-    block_in.0
+overflow_sub-from c = (block_at c.requires.readable c.read64-size.ensures c.read64.ensures c.if-size-eq0.false).low
 
-pub copy_bytes-requires : goal.copy_bytes-requires
-copy_bytes-requires c =
-    let numbers : (length_of c.args.w.now c.args.base c.args.d ≡ c.read64-size.result) × (address_of c.args.w.now c.args.base c.args.d ≡ c.read64.result) = let a = c.args in (
-      length_at a.w.now a.base a.d ∙ sym c.read64-size.ensures,
-      address_at a.w.now a.base a.d c.requires.readable.low ∙ sym c.read64.ensures,
-    ) in
-    let block_in : (c.args.base ≤ c.read64.result) × (c.read64.result + c.read64-size.result ≤ c.args.base + length c.args.w.now) = let n = numbers in
-    let h = c.requires.readable.block (omega arith) in
-    (omega arith, omega arith) in
-    let p = c.requires in
-    let n = numbers in
-    let b = block_in in
-    (omega arith, omega (arith, p.room), ⊎_elim (λ g. inl (omega arith)) (λ g. inr (omega arith)) (p.apart (omega arith)))
+pub overflow_add-from : goal.overflow_add-from
+overflow_add-from c =
+    let b = block_at c.requires.readable c.read64-size.ensures c.read64.ensures c.if-size-eq0.false in
+    omega (arith, b.low, b.high)
+
+pub copy_within-requires-clause-in_bounds : goal.copy_within-requires-clause-in_bounds
+copy_within-requires-clause-in_bounds c =
+    let b = block_at c.requires.readable c.read64-size.ensures c.read64.ensures c.if-size-eq0.false in
+    omega (arith, b.low, b.high)
+
+pub copy_within-requires-clause-dest_in_bounds : goal.copy_within-requires-clause-dest_in_bounds
+copy_within-requires-clause-dest_in_bounds c =
+    let b = block_at c.requires.readable c.read64-size.ensures c.read64.ensures c.if-size-eq0.false in
+    omega (arith, b.size_is, c.requires.room)
 
 pub returns : goal.returns
-unfolding block
 returns c =
-    let numbers : (length_of c.args.w.now c.args.base c.args.d ≡ c.read64-size.result) × (address_of c.args.w.now c.args.base c.args.d ≡ c.read64.result) = let a = c.args in (
-      length_at a.w.now a.base a.d ∙ sym c.read64-size.ensures,
-      address_at a.w.now a.base a.d c.requires.readable.low ∙ sym c.read64.ensures,
-    ) in
-    let n = numbers in
-    (sym n.0, rw (n.0, n.1) c.copy_bytes.ensures)
+    let a = c.args in
+    let b = block_at c.requires.readable c.read64-size.ensures c.read64.ensures c.if-size-eq0.false in
+    let from = c.read64.result - a.base in
+    let n : from + c.read64-size.result - from ≡ c.read64-size.result = omega arith in
+    (sym b.size_is, rw n at c.copy_within.ensures.after ∙ block_put a.w.now a.base a.d a.q b)

@@ -10,7 +10,6 @@ use Rattle.refusals.specs.declared.Refusal.TheVariants.{BlockOutside, TotalLengt
 use Rattle.gather_window.specs.Window.{descriptor_fits}
 use Rattle.gather_descriptors.specs.Reading.{Reading, refused, walk, jump_or_end, data_block, total_limit}
 use Rattle.gather_descriptors.specs.Scratch.{ScratchHolds}
-use Rattle.gather_descriptors.specs.declared.Read.{Read}
 use Rattle.gather_descriptors.proofs.Steps.{rest, descriptor_ends, bad_address, went_on, ended, none_left, below, jumped_on}
 use Rattle.gather_descriptors.proofs.+jump_run.Goals as goal
 
