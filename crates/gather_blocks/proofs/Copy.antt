@@ -9,13 +9,14 @@ use native.Mathlib.Numerals.{add-one}
 use native.Mathlib.Omega.{arith}
 use lib.ListN.{length, get_or, take, drop, length-take, length-append, length-drop, take-append-drop}
 use lib.Seq.{paste, get_or-take, get_or-drop, length-take-le, take-suc, ext_get_or}
+use Rattle.std.specs.declared.ops.Range.{Range}
 use Rattle.fields.specs.Number.{le, put}
 use Rattle.fields.proofs.Tests.{le_or_lt}
 use Rattle.fields.proofs.Number.{le_same}
 use Rattle.fields.proofs.Put.{put_paste, put_length, put_outside, put_more}
 use Rattle.gather_descriptors.specs.Reading.{length_of, address_of}
-use Rattle.gather_descriptors.specs.Scratch.{Readable, AllReadable, lengths}
-use Rattle.gather_descriptors.proofs.Steps.{length_at, address_at, Block}
+use Rattle.gather_descriptors.specs.Scratch.{Readable, BlockIs, AllReadable, lengths}
+use Rattle.gather_descriptors.proofs.Steps.{length_at, address_at}
 use Rattle.gather_place.specs.Place.{clear_of, free}
 use Rattle.gather_place.proofs.Ranges.{clear_each, clear_descriptor, clear_block}
 use Rattle.gather_place.proofs.Search.{free_parts}
@@ -28,10 +29,12 @@ unfolding put
 put_nothing w q = simp (add-zero, append-nil, take-append-drop)
 
 -- a copy of the block
-pub block_put : (w : List ℕ) (B d q : ℕ) {size adr : ℕ} → Block w B d size adr → paste w q (drop (adr - B) w) size ≡ put w q (block w B d)
+pub block_put : (w : List ℕ) (B d q : ℕ) (r : Range ℕ) → Readable w B d → BlockIs w B d r → paste w q (drop r.start w) (r.end - r.start) ≡ put w q (block w B d)
 unfolding block
-block_put w B d q {size} {adr} b =
-    rw (b.size_is, b.address_is) (put_paste w q (drop (adr - B) w) size (simp length-drop (omega (arith, b.low, b.high))))
+block_put w B d q r readable is =
+    let s : address_of w B d - B ≡ r.start = omega (arith, is.starts) in
+    let n : r.end - r.start ≡ length_of w B d = omega (arith, is.ends) in
+    rw (n, s) (put_paste w q (drop r.start w) (length_of w B d) (simp length-drop (omega (arith, is.starts, (readable.block is.some).1))))
 
 pub no_block : (w : List ℕ) (B d q : ℕ) → length_of w B d ≡ 0 → w ≡ put w q (block w B d)
 unfolding block

@@ -9,21 +9,18 @@ ghost use Rattle.gather_place.specs.Place.{free};
 ghost use Rattle.gather_blocks.specs.Blocks.{block, blocks};
 ghost use Rattle.gather_blocks.specs.Copy.{Ready};
 
-use fields::read64;
+use gather_descriptors::block_at;
 
 // Copies the block of the descriptor at the address d, if it has one, to the offset q. Answers its length.
 fn copy_block(w: &mut [u8], base: u64, d: u64, q: usize) -> usize
     requires { Ready w.old base d q }
     ensures { (result ≡ length_of w.old base d) × (w.new ≡ put w.old q (block w.old base d)) }
 {
-    let at = (d - base) as usize;
-    let size = read64(w, at);
-    if size == 0 {
+    let Some(block) = block_at(w, base, d) else {
         return 0;
-    }
-    let from = (read64(w, at + 8) - base) as usize;
-    let n = size as usize;
-    w.copy_within(from..from + n, q);
+    };
+    let n = block.len();
+    w.copy_within(block, q);
     n
 }
 

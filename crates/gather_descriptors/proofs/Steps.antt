@@ -18,7 +18,7 @@ use Rattle.refusals.specs.declared.Refusal.{Refusal}
 use Rattle.refusals.specs.declared.Refusal.TheVariants.{DescriptorCount, DescriptorAddress}
 use Rattle.gather_window.specs.Window.{past_window_end, within, descriptor_fits}
 use Rattle.gather_descriptors.specs.Reading.{Reading, refused, whole, with_descriptor, length_of, address_of, jump_or_end, data_block, walk}
-use Rattle.gather_descriptors.specs.Scratch.{ScratchHolds, Readable}
+use Rattle.gather_descriptors.specs.Scratch.{ScratchHolds}
 use Rattle.gather_descriptors.specs.declared.Listed.{Listed}
 
 -- both ends, of a descriptor and of a block
@@ -59,20 +59,6 @@ unfolding address_of
 address_at w B d low =
     let e : d + 8 - B ≡ d - B + 8 = omega arith in
     rw e
-
--- the block of a descriptor whose two numbers were read
-pub record Block (w : List ℕ) (B d size adr : ℕ) : Type 0 where
-  pub size_is : length_of w B d ≡ size
-  pub address_is : address_of w B d ≡ adr
-  pub low : B ≤ adr
-  pub high : adr + size ≤ B + length w
-
-pub block_at : {w : List ℕ} {B d size adr : ℕ} → Readable w B d → size ≡ le 8 w (d - B) → adr ≡ le 8 w (d - B + 8) → (size ≡ 0 → ⊥) → Block w B d size adr
-block_at {w} {B} {d} r es ea some =
-    let ls = length_at w B d ∙ sym es in
-    let la = address_at w B d r.low ∙ sym ea in
-    let h = r.block (omega arith) in
-    record { size_is = ls; address_is = la; low = omega arith; high = omega arith }
 
 -- what follows a descriptor of these two numbers that stands at a
 abbrev pub rest : (l : ℕ) (w : List ℕ) (B a t len adr : ℕ) → Reading

@@ -2,6 +2,7 @@
 -- it. The array is `gather`'s own, so what a refusal leaves there is open. The promise of the entry `gather` needs none
 -- of this; the laws about it need `lengths`. Assumes nothing.
 use Rattle.std.specs.Prelude.{ℕ, ◌+◌, ◌≤◌, ◌<◌, List, [], ◌∷◌, ◌++◌, Result, Ok, Err, ◌≡◌, length, take, get_or}
+use Rattle.std.specs.declared.ops.Range.{Range}
 use Rattle.refusals.specs.declared.Refusal.{Refusal}
 use Rattle.gather_descriptors.specs.Reading.{Reading, refused, whole, length_of, address_of}
 use Rattle.gather_descriptors.specs.declared.Listed.{Listed}
@@ -18,6 +19,12 @@ pub record Readable (w : List ℕ) (B d : ℕ) : Type 0 where
   pub low : B ≤ d
   pub high : d + 16 ≤ B + length w
   pub block : 0 < length_of w B d → (B ≤ address_of w B d) × (address_of w B d + length_of w B d ≤ B + length w)
+
+-- it has a block, which is the range r of the window, by offsets
+pub record BlockIs (w : List ℕ) (B d : ℕ) (r : Range ℕ) : Type 0 where
+  pub some : 0 < length_of w B d
+  pub starts : B + r.start ≡ address_of w B d
+  pub ends : r.end ≡ r.start + length_of w B d
 
 -- so do all of ds
 abbrev pub AllReadable : List ℕ → ℕ → List ℕ → Type 0

@@ -2,13 +2,14 @@
 // definitions by addresses (crate gather_window).
 #![tactic(auto)]
 
-ghost use Rattle.std.specs.Prelude.{◌≡◌, length};
-ghost use Rattle.gather_descriptors.specs.Reading.{reading};
-ghost use Rattle.gather_descriptors.specs.Scratch.{ScratchHolds};
+ghost use Rattle.std.specs.Prelude.{◌≡◌, length, MatchOption};
+ghost use Rattle.gather_descriptors.specs.Reading.{length_of, reading};
+ghost use Rattle.gather_descriptors.specs.Scratch.{ScratchHolds, Readable, BlockIs};
 
 use fields::read64;
 use gather_window::{block_fits, descriptor_fits, window_fits};
 use refusals::Refusal;
+use std::ops::Range;
 
 // How many descriptors are read at most, jumps and the end included (G9).
 pub const DESCRIPTOR_LIMIT: usize = 256;
@@ -68,4 +69,19 @@ pub fn read_list(
         total += size;
     }
     Err(Refusal::DescriptorCount)
+}
+
+// Where the block of the descriptor at the address d stands, by offsets in the window, if it has one.
+#[tactic(auto, using(crate::proofs::Steps::length_at, crate::proofs::Steps::address_at))]
+pub fn block_at(w: &[u8], base: u64, d: u64) -> Option<Range<usize>>
+    requires { Readable w.now base d }
+    ensures { MatchOption result (length_of w.now base d ≡ 0) (BlockIs w.now base d) }
+{
+    let at = (d - base) as usize;
+    let size = read64(w, at);
+    if size == 0 {
+        return None;
+    }
+    let from = (read64(w, at + 8) - base) as usize;
+    Some(from..from + size as usize)
 }

@@ -9,11 +9,11 @@ use borrow.Author.Tests.{leb-true, leb-false, lt-leb, eq-eqb, eqb-true, ne_eqb, 
 use lib.Dec.{leb, eqb}
 use lib.ListN.{length, get_or}
 use Rattle.std.specs.Prelude.{Some, not}
+use Rattle.std.specs.declared.ops.Range.{Range}
 use Rattle.std.specs.Bool.{then_some}
 use Rattle.fields.proofs.Tests.{both, either, neither, same_test}
 use Rattle.gather_descriptors.specs.Reading.{length_of, address_of}
-use Rattle.gather_descriptors.specs.Scratch.{Readable}
-use Rattle.gather_descriptors.proofs.Steps.{Block}
+use Rattle.gather_descriptors.specs.Scratch.{Readable, BlockIs}
 use Rattle.gather_place.specs.Place.{apart, clear_of, clear_of_all}
 use Rattle.gather_place.specs.Search.{NextStart}
 
@@ -97,12 +97,20 @@ past_descriptor w B d p t r e =
     (m.0, omega (arith, r.high), λ q le lt. meets_descriptor w B t (B + q) d (apart_at B q t d 16 r.low ∙ m.1 q le lt))
 
 -- the first that its block leaves, or none, where they are clear of the descriptor itself
-pub past_block : (w : List ℕ) (B d p t : ℕ) {size adr : ℕ} → Block w B d size adr → (size ≡ 0 → ⊥) → apart (B + p) t d 16 ≡ true → (b : Bool)
-    → b ≡ not (apart p t (adr - B) size) → NextStart (λ q. clear_of w B t (B + q) d) (length w) p (then_some b (adr - B + size))
-past_block w B d p t {size} {adr} r some clear true e =
-    let m = meets p t (adr - B) size (not-true _ (sym e)) in
-    (m.0, omega (arith, r.low, r.high), λ q le lt.
-    meets_block w B t (B + q) d (λ z. some (sym r.size_is ∙ z)) (rw (r.size_is, r.address_is) (apart_at B q t adr size r.low ∙ m.1 q le lt)))
-past_block w B d p t {size} {adr} r some clear false e =
-    clear_both w B t (B + p) d clear (λ z. some (sym r.size_is ∙ z))
-    (rw (r.size_is, r.address_is) (apart_at B p t adr size r.low ∙ not-false _ (sym e)))
+pub past_block : (w : List ℕ) (B d p t : ℕ) (r : Range ℕ) → Readable w B d → BlockIs w B d r → apart (B + p) t d 16 ≡ true
+    → (n : ℕ) → n ≡ length_of w B d → (b : Bool) → b ≡ not (apart p t r.start n) → NextStart (λ q. clear_of w B t (B + q) d) (length w) p (then_some b r.end)
+past_block w B d p t r readable is clear n en true e =
+    let s : address_of w B d - B ≡ r.start = omega (arith, is.starts) in
+    let low : B ≤ address_of w B d = omega (arith, is.starts) in
+    let m = meets p t r.start n (not-true _ (sym e)) in (
+      omega (arith, m.0, is.ends),
+      omega (arith, is.ends, is.starts, (readable.block is.some).1),
+      λ q le lt.
+          meets_block w B t (B + q) d (λ z. absurd (omega (arith, is.some)))
+          (apart_at B q t (address_of w B d) (length_of w B d) low ∙ rw (s, ← en) (m.1 q le (omega (arith, is.ends)))),
+    )
+past_block w B d p t r readable is clear n en false e =
+    let s : address_of w B d - B ≡ r.start = omega (arith, is.starts) in
+    let low : B ≤ address_of w B d = omega (arith, is.starts) in
+    clear_both w B t (B + p) d clear (λ z. absurd (omega (arith, is.some)))
+    (apart_at B p t (address_of w B d) (length_of w B d) low ∙ rw (s, ← en) (not-false _ (sym e)))

@@ -8,7 +8,7 @@ ghost use Rattle.gather_descriptors.specs.Scratch.{Readable, AllReadable};
 ghost use Rattle.gather_place.specs.Place.{apart, clear_of, clear_of_all, place_for};
 ghost use Rattle.gather_place.specs.Search.{NextStart};
 
-use fields::read64;
+use gather_descriptors::block_at;
 
 // Whether the t bytes at the offset p and the n bytes at the offset s share one.
 #[tactic(auto, unfolding(crate::specs::Place::apart))]
@@ -28,13 +28,8 @@ fn shared_end(w: &[u8], base: u64, d: u64, p: usize, t: usize) -> Option<usize>
     if share(p, t, at, 16) {
         return Some(at + 16);
     }
-    let size = read64(w, at);
-    if size == 0 {
-        return None;
-    }
-    let s = (read64(w, at + 8) - base) as usize;
-    let end = s + size as usize;
-    share(p, t, s, size as usize).then_some(end)
+    let block = block_at(w, base, d)?;
+    share(p, t, block.start, block.len()).then_some(block.end)
 }
 
 // The same for the first of the descriptors, in list order, that has such an end.
