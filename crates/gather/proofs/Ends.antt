@@ -22,7 +22,8 @@ module _ (w : List ℕ) (B t : ℕ) (ds : List ℕ) where
   unfolding finished copied_to
   no_place z e = rw (ne_eqb t 0 z, e)
 
-  pub at_place : (p : ℕ) → (t ≡ 0 → ⊥) → place_for w B t ds ≡ Some p → (place p t, put w (p - B) (blocks w B ds)) ≡ finished w B (whole t ds)
+  pub at_place : (p : ℕ) → (t ≡ 0 → ⊥) → place_for w B t ds ≡ Some p
+      → (place p t, put w (p - B) (blocks w B ds)) ≡ finished w B (whole t ds)
   unfolding finished copied_to
   at_place p z e = rw (ne_eqb t 0 z, e)
 

@@ -64,7 +64,8 @@ module _ (w : List ℕ) (B first : ℕ) where
     by_place : (t : ℕ) (ds : List ℕ) (q : ℕ) → reading w B first ≡ whole t ds → 0 < t → place_for w B t ds ≡ Some q
         → Way (place q t, put w (q - B) (blocks w B ds))
 
-  way_at : (t : ℕ) (ds : List ℕ) (X : Option ℕ) → reading w B first ≡ whole t ds → 0 < t → place_for w B t ds ≡ X → Way (copied_to X w B t ds)
+  way_at : (t : ℕ) (ds : List ℕ) (X : Option ℕ) → reading w B first ≡ whole t ds → 0 < t → place_for w B t ds ≡ X
+      → Way (copied_to X w B t ds)
   unfolding copied_to
   way_at t ds (Some q) r some e = by_place t ds q r some e
   way_at t ds None r some e = by_no_place t ds r some e

@@ -29,7 +29,8 @@ unfolding put
 put_nothing w q = simp (add-zero, append-nil, take-append-drop)
 
 -- a copy of the block
-pub block_put : (w : List ℕ) (B d q : ℕ) (r : Range ℕ) → Readable w B d → BlockIs w B d r → paste w q (drop r.start w) (r.end - r.start) ≡ put w q (block w B d)
+pub block_put : (w : List ℕ) (B d q : ℕ) (r : Range ℕ) → Readable w B d → BlockIs w B d r
+    → paste w q (drop r.start w) (r.end - r.start) ≡ put w q (block w B d)
 unfolding block
 block_put w B d q r readable is =
     let s : address_of w B d - B ≡ r.start = omega (arith, is.starts) in
@@ -64,7 +65,13 @@ pub blocks_length : (w : List ℕ) (B : ℕ) (ds : List ℕ) → AllReadable w B
 unfolding blocks lengths
 blocks_length w B [] h = refl
 blocks_length w B (d ∷ ds) h =
-    omega (arith, length-append (block w B d) (blocks w B ds), block_length w B d (h 0 (omega arith)), blocks_length w B ds (λ i lt. h (suc i) (omega arith)))
+    omega (
+      arith,
+      length-append (block w B d) (blocks w B ds),
+      block_length w B d (h 0 (omega arith)),
+      blocks_length w B ds
+          (λ i lt. h (suc i) (omega arith)),
+    )
 
 blocks_front : (w : List ℕ) (B : ℕ) (ds : List ℕ) (i : ℕ) → length (blocks w B (take i ds)) ≤ length (blocks w B ds)
 unfolding blocks

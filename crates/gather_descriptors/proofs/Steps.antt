@@ -66,31 +66,37 @@ rest l w B a t len adr =
     cond (eqb len 0) (jump_or_end adr t (λ next. walk l w B next t)) (data_block B (length w) adr len t (walk l w B (a + 16)))
 
 pub walk_more : (l : ℕ) (w : List ℕ) (B a t : ℕ) → (l ≡ 0 → ⊥)
-    → walk l w B a t ≡ cond (descriptor_fits B (length w) a) (with_descriptor a (rest (l - 1) w B a t (length_of w B a) (address_of w B a))) (refused DescriptorAddress)
+    → walk l w B a t ≡ cond (descriptor_fits B (length w) a)
+    (with_descriptor a (rest (l - 1) w B a t (length_of w B a) (address_of w B a))) (refused DescriptorAddress)
 unfolding walk
 walk_more zero w B a t f = absurd (f refl)
 walk_more (suc k) w B a t f = rw (sub-one (suc k))
 
-kept_after : (X : Reading) (k d : ℕ) (old new : List ℕ) (r : Result Listed Refusal) → k < length old → ScratchHolds X (k + 1) (set old k d) new r → ScratchHolds (with_descriptor d X) k old new r
+kept_after : (X : Reading) (k d : ℕ) (old new : List ℕ) (r : Result Listed Refusal) → k < length old
+    → ScratchHolds X (k + 1) (set old k d) new r → ScratchHolds (with_descriptor d X) k old new r
 unfolding ScratchHolds with_descriptor
 kept_after (refused n) k d old new r lt h = h
 kept_after (whole t ds) k d old new r lt h =
     let e : k + length (d ∷ ds) ≡ k + 1 + length ds = omega arith in
     rw e (
       h.0,
-      h.1 ∙ ap (λ (j : ℕ). take j (set old k d) ++ ds) (add-one k) ∙ ap (λ (x : List ℕ). x ++ ds) (take-suc-set old k d lt) ∙ append_snoc (take k old) d ds,
+      h.1 ∙ ap (λ (j : ℕ). take j (set old k d) ++ ds) (add-one k) ∙ ap (λ (x : List ℕ). x ++ ds) (take-suc-set old k d lt) ∙ append_snoc
+          (take k old) d ds,
       h.2 ∙ length-set old k d,
     )
 
 -- turn k, from the offset `at` on
 module _ (w : List ℕ) (B at t k : ℕ) (old new : List ℕ) (few : k < 256) where
-  pub bad_address : descriptor_fits B (length w) (B + at) ≡ false → ScratchHolds (walk (256 - k) w B (B + at) t) k old new (Err DescriptorAddress)
+  pub bad_address : descriptor_fits B (length w) (B + at) ≡ false
+      → ScratchHolds (walk (256 - k) w B (B + at) t) k old new (Err DescriptorAddress)
   unfolding ScratchHolds
   bad_address e = rw (walk_more (256 - k) w B (B + at) t (λ z. absurd (omega arith)), e)
 
   -- past the address test: the descriptor stands first, and what follows goes by its two numbers
-  pub went_on : (r : Result Listed Refusal) (len adr : ℕ) → descriptor_fits B (length w) (B + at) ≡ true → len ≡ le 8 w at → adr ≡ le 8 w (at + 8)
-      → length old ≡ 256 → (X : Reading) → rest (256 - (k + 1)) w B (B + at) t len adr ≡ X → ScratchHolds X (k + 1) (set old k (B + at)) new r
+  pub went_on : (r : Result Listed Refusal) (len adr : ℕ) → descriptor_fits B (length w) (B + at) ≡ true → len ≡ le 8 w at
+      → adr ≡ le 8 w (at + 8)
+      → length old ≡ 256 → (X : Reading) → rest (256 - (k + 1)) w B (B + at) t len adr ≡ X
+      → ScratchHolds X (k + 1) (set old k (B + at)) new r
       → ScratchHolds (walk (256 - k) w B (B + at) t) k old new r
   went_on r len adr e el ea lo X ex h =
       let l : 256 - k - 1 ≡ 256 - (k + 1) = omega arith in
@@ -99,7 +105,8 @@ module _ (w : List ℕ) (B at t k : ℕ) (old new : List ℕ) (few : k < 256) wh
       rw (l, length_at w B (B + at), address_at w B (B + at) (omega arith), o, ← el, ← ea) ex in
       rw (walk_more (256 - k) w B (B + at) t (λ z. absurd (omega arith)), e, x) (kept_after X k (B + at) old new r (omega arith) h)
 
-pub ended : (a t : ℕ) (next : ℕ → Reading) (k : ℕ) (old : List ℕ) → a ≡ 0 → ScratchHolds (jump_or_end a t next) k old old (Ok (record { count = k; total = t }))
+pub ended : (a t : ℕ) (next : ℕ → Reading) (k : ℕ) (old : List ℕ) → a ≡ 0
+    → ScratchHolds (jump_or_end a t next) k old old (Ok (record { count = k; total = t }))
 unfolding ScratchHolds jump_or_end
 ended a t next k old e = rw (e, add-zero) (refl, sym (append-nil (take k old)), refl)
 
@@ -108,13 +115,15 @@ unfolding ScratchHolds walk
 none_left w B a t k old new = refl
 
 -- where no descriptor fits, walks are the same
-no_walk : (w : List ℕ) (B a b t l : ℕ) → descriptor_fits B (length w) a ≡ false → descriptor_fits B (length w) b ≡ false → walk l w B a t ≡ walk l w B b t
+no_walk : (w : List ℕ) (B a b t l : ℕ) → descriptor_fits B (length w) a ≡ false → descriptor_fits B (length w) b ≡ false
+    → walk l w B a t ≡ walk l w B b t
 unfolding walk
 no_walk w B a b t zero e f = refl
 no_walk w B a b t (suc l) e f = rw (e, f)
 
 -- an address's offset wraps where the address lies below the window; no descriptor fits there either
-pub wrapped : (w : List ℕ) (B a t l : ℕ) → B + length w ≤ 2 ^ 64 → a < 2 ^ 64 → B < 2 ^ 64 → walk l w B (B + (a + (2 ^ 64 - B)) % 2 ^ 64) t ≡ walk l w B a t
+pub wrapped : (w : List ℕ) (B a t l : ℕ) → B + length w ≤ 2 ^ 64 → a < 2 ^ 64 → B < 2 ^ 64
+    → walk l w B (B + (a + (2 ^ 64 - B)) % 2 ^ 64) t ≡ walk l w B a t
 unfolding descriptor_fits within
 wrapped w B a t l below fa fB =
     ⊎_elim
@@ -125,7 +134,8 @@ wrapped w B a t l below fa fB =
     no_walk w B b a t l (simp (lt-leb (b + 16) (B + length w) high, and-false)) (simp (lt-leb B a under, and-false)))
     (le_or_lt B a)
 
-pub jumped_on : (w : List ℕ) (B a t l k : ℕ) (old new : List ℕ) (r : Result Listed Refusal) → (a ≡ 0 → ⊥) → ScratchHolds (walk l w B a t) k old new r
+pub jumped_on : (w : List ℕ) (B a t l k : ℕ) (old new : List ℕ) (r : Result Listed Refusal) → (a ≡ 0 → ⊥)
+    → ScratchHolds (walk l w B a t) k old new r
     → ScratchHolds (jump_or_end a t (λ next. walk l w B next t)) k old new r
 unfolding jump_or_end
 jumped_on w B a t l k old new r some h = rw (ne_eqb a 0 some) h

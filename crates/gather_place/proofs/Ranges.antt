@@ -52,7 +52,8 @@ module _ (w : List ℕ) (B t p d : ℕ) where
   unfolding clear_of
   clear_no_block a e = simp (a, eq-eqb (length_of w B d) 0 e)
 
-  pub clear_both : apart p t d 16 ≡ true → (length_of w B d ≡ 0 → ⊥) → apart p t (address_of w B d) (length_of w B d) ≡ true → clear_of w B t p d ≡ true
+  pub clear_both : apart p t d 16 ≡ true → (length_of w B d ≡ 0 → ⊥) → apart p t (address_of w B d) (length_of w B d) ≡ true
+      → clear_of w B t p d ≡ true
   unfolding clear_of
   clear_both a z e = simp (a, ne_eqb (length_of w B d) 0 z, e)
 
@@ -98,7 +99,8 @@ past_descriptor w B d p t r e =
 
 -- the first that its block leaves, or none, where they are clear of the descriptor itself
 pub past_block : (w : List ℕ) (B d p t : ℕ) (r : Range ℕ) → Readable w B d → BlockIs w B d r → apart (B + p) t d 16 ≡ true
-    → (n : ℕ) → n ≡ length_of w B d → (b : Bool) → b ≡ not (apart p t r.start n) → NextStart (λ q. clear_of w B t (B + q) d) (length w) p (then_some b r.end)
+    → (n : ℕ) → n ≡ length_of w B d → (b : Bool) → b ≡ not (apart p t r.start n)
+    → NextStart (λ q. clear_of w B t (B + q) d) (length w) p (then_some b r.end)
 past_block w B d p t r readable is clear n en true e =
     let s : address_of w B d - B ≡ r.start = omega (arith, is.starts) in
     let low : B ≤ address_of w B d = omega (arith, is.starts) in

@@ -31,6 +31,8 @@ loop-d-preserved c =
     let a = c.args in
     let i = c.loop-d.invariant in
     let e = c.copy_block-q.ensures in
-    let t = rw (← i.0, ← i.1) at (after a.w.now a.base a.descriptors.now a.p c.requires.0 c.requires.1 c.loop-d.d-index c.loop-d-test.true) in
-    let n = rw (← i.0, ← i.1) at (next a.w.now a.base a.descriptors.now a.p c.requires.0 c.requires.1 c.loop-d.d-index c.loop-d-test.true) in
+    let ds = a.descriptors.now in
+    let k = c.loop-d.d-index in
+    let t = rw (← i.0, ← i.1) at (after a.w.now a.base ds a.p c.requires.0 c.requires.1 k c.loop-d-test.true) in
+    let n = rw (← i.0, ← i.1) at (next a.w.now a.base ds a.p c.requires.0 c.requires.1 k c.loop-d-test.true) in
     (e.1 ∙ t, ap (λ (k : ℕ). c.loop-d.q + k) e.0 ∙ n, c.copy_block-q.auto.w ∙ i.2)

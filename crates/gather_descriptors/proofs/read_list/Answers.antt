@@ -15,7 +15,8 @@ use Rattle.gather_descriptors.proofs.read_list.Goals as goal
 pub returns-then-not-window_fits : goal.returns-then-not-window_fits
 unfolding reading ScratchHolds
 returns-then-not-window_fits c =
-    let e : past_window_end c.args.base (length c.args.w.now) ≡ true = not-false _ (sym c.window_fits.ensures ∙ c.if-not-window_fits.true) in
+    let e : past_window_end c.args.base (length c.args.w.now) ≡ true = not-false _
+    (sym c.window_fits.ensures ∙ c.if-not-window_fits.true) in
     rw e
 
 pub loop-k-init : goal.loop-k-init
@@ -57,7 +58,8 @@ loop-k-preserved-then-size-eq0 c =
           (sym c.if-not-descriptor_fits.ensures) c.read64-size.ensures c.read64-address.ensures l.invariant.1
           (jump_or_end c.read64-address.result l.total (λ (a' : ℕ). walk left a.w.now a.base a' l.total))
           (rw (eq-eqb _ _ c.if-size-eq0.true))
-          (jumped_on a.w.now a.base c.read64-address.result l.total left (l.k + 1) (set l.ds l.k (a.base + l.at)) new r c.if-address-eq0.false
+          (jumped_on a.w.now a.base c.read64-address.result l.total left (l.k + 1)
+          (set l.ds l.k (a.base + l.at)) new r c.if-address-eq0.false
           (rw (wrapped a.w.now a.base c.read64-address.result l.total left below (omega arith) (omega arith)) at h))),
     )
 

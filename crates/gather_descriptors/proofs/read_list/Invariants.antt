@@ -1,5 +1,5 @@
--- `read_list` meets its contract. The loop's invariant: what the walk from the offset `at` on answers and leaves, behind
--- the k descriptors read, is what the whole reading does. Assumes nothing.
+-- `read_list` meets its contract. The loop's invariant: what the walk from the offset `at` on answers and leaves behind
+-- the k descriptors read is what the whole reading does. Assumes nothing.
 use mathlib.Core.Path.{◌≡◌}
 use mathlib.Core.List.{List}
 use Prim.Native.Nat.{ℕ, ◌+◌, ◌-◌, ◌≤◌}
