@@ -1,22 +1,21 @@
 -- What one call of a reader makes of the definitions. Assumes nothing.
 use mathlib.Core.Path.{◌≡◌, refl, sym, ap, ◌∙◌}
-use mathlib.Core.Bool.{Bool, true, false, cond, and-false}
-use mathlib.Core.Logic.{⊎_elim}
+use mathlib.Core.Bool.{true, false, cond, and-false}
 use mathlib.Core.List.{List, ◌∷◌, ◌++◌, append-nil}
-use Prim.Native.Nat.{ℕ, zero, suc, ◌+◌, ◌-◌, ◌%◌, ◌^◌, ◌<◌, ◌≤◌}
+use Prim.Native.Nat.{ℕ, zero, suc, ◌+◌, ◌-◌, ◌%◌, ◌<◌, ◌≤◌}
 use native.Mathlib.Nat.{add-zero}
 use native.Mathlib.Numerals.{sub-one, add-one}
 use native.Mathlib.Omega.{arith}
-use borrow.Author.Tests.{leb-true, le-leb, lt-leb, eqb-true, eq-eqb, ne_eqb, ltb-false, not-true}
+use borrow.Author.Tests.{leb-true, le-leb, lt-leb, eqb-true, eq-eqb, ne_eqb}
 use lib.Dec.{leb, eqb}
 use lib.ListN.{length, take, set, length-set}
 use lib.Seq.{take-suc-set, append_snoc}
 use Rattle.fields.specs.Number.{le}
-use Rattle.fields.proofs.Tests.{both, le_or_lt}
-use Rattle.std.specs.Prelude.{not, Result, Ok, Err}
+use Rattle.fields.proofs.Tests.{both}
+use Rattle.std.specs.Prelude.{Result, Ok, Err}
 use Rattle.refusals.specs.declared.Refusal.{Refusal}
 use Rattle.refusals.specs.declared.Refusal.TheVariants.{DescriptorCount, DescriptorAddress}
-use Rattle.gather_window.specs.Window.{past_window_end, within, descriptor_fits}
+use Rattle.gather_window.specs.Window.{within, descriptor_fits}
 use Rattle.gather_descriptors.specs.Reading.{Reading, refused, whole, with_descriptor, length_of, address_of, jump_or_end, data_block, walk}
 use Rattle.gather_descriptors.specs.Scratch.{ScratchHolds}
 use Rattle.gather_descriptors.specs.declared.Listed.{Listed}
@@ -45,10 +44,6 @@ pub fits_of : (B N a : ℕ) → a % 8 ≡ 0 → B ≤ a → a + 16 ≤ B + N →
 unfolding descriptor_fits
 fits_of B N a aligned low high = rw (eq-eqb (a % 8) 0 aligned, within_of B N a 16 low high)
 
--- the same by the offset
-pub inside : (B N at : ℕ) → true ≡ descriptor_fits B N (B + at) → at + 16 ≤ N
-inside B N at e = omega (arith, descriptor_ends B N (B + at) (sym e))
-
 -- the two numbers of the descriptor at the address d, by its offset
 pub length_at : (w : List ℕ) (B d : ℕ) → length_of w B d ≡ le 8 w (d - B)
 unfolding length_of
@@ -66,80 +61,52 @@ rest l w B a t len adr =
     cond (eqb len 0) (jump_or_end adr t (λ next. walk l w B next t)) (data_block B (length w) adr len t (walk l w B (a + 16)))
 
 pub walk_more : (l : ℕ) (w : List ℕ) (B a t : ℕ) → (l ≡ 0 → ⊥)
-    → walk l w B a t ≡ cond (descriptor_fits B (length w) a)
-    (with_descriptor a (rest (l - 1) w B a t (length_of w B a) (address_of w B a))) (refused DescriptorAddress)
+    → walk l w B a t ≡ cond (descriptor_fits B (length w) a) (with_descriptor a (rest (l - 1) w B a t (length_of w B a) (address_of w B a))) (refused DescriptorAddress)
 unfolding walk
 walk_more zero w B a t f = absurd (f refl)
 walk_more (suc k) w B a t f = rw (sub-one (suc k))
 
-kept_after : (X : Reading) (k d : ℕ) (old new : List ℕ) (r : Result Listed Refusal) → k < length old
-    → ScratchHolds X (k + 1) (set old k d) new r → ScratchHolds (with_descriptor d X) k old new r
+kept_after : (X : Reading) (k d : ℕ) (old new : List ℕ) (r : Result Listed Refusal) → k < length old → ScratchHolds X (k + 1) (set old k d) new r → ScratchHolds (with_descriptor d X) k old new r
 unfolding ScratchHolds with_descriptor
 kept_after (refused n) k d old new r lt h = h
 kept_after (whole t ds) k d old new r lt h =
     let e : k + length (d ∷ ds) ≡ k + 1 + length ds = omega arith in
     rw e (
       h.0,
-      h.1 ∙ ap (λ (j : ℕ). take j (set old k d) ++ ds) (add-one k) ∙ ap (λ (x : List ℕ). x ++ ds) (take-suc-set old k d lt) ∙ append_snoc
-          (take k old) d ds,
+      h.1 ∙ ap (λ (j : ℕ). take j (set old k d) ++ ds) (add-one k) ∙ ap (λ (x : List ℕ). x ++ ds) (take-suc-set old k d lt) ∙ append_snoc (take k old) d ds,
       h.2 ∙ length-set old k d,
     )
 
--- turn k, from the offset `at` on
-module _ (w : List ℕ) (B at t k : ℕ) (old new : List ℕ) (few : k < 256) where
-  pub bad_address : descriptor_fits B (length w) (B + at) ≡ false
-      → ScratchHolds (walk (256 - k) w B (B + at) t) k old new (Err DescriptorAddress)
+module _ (w : List ℕ) (B at t l : ℕ) (old new : List ℕ) (some : l ≡ 0 → ⊥) where
+  pub bad_address : descriptor_fits B (length w) (B + at) ≡ false → ScratchHolds (walk l w B (B + at) t) (256 - l) old new (Err DescriptorAddress)
   unfolding ScratchHolds
-  bad_address e = rw (walk_more (256 - k) w B (B + at) t (λ z. absurd (omega arith)), e)
+  bad_address e = rw (walk_more l w B (B + at) t some, e)
 
   -- past the address test: the descriptor stands first, and what follows goes by its two numbers
-  pub went_on : (r : Result Listed Refusal) (len adr : ℕ) → descriptor_fits B (length w) (B + at) ≡ true → len ≡ le 8 w at
-      → adr ≡ le 8 w (at + 8)
-      → length old ≡ 256 → (X : Reading) → rest (256 - (k + 1)) w B (B + at) t len adr ≡ X
-      → ScratchHolds X (k + 1) (set old k (B + at)) new r
-      → ScratchHolds (walk (256 - k) w B (B + at) t) k old new r
-  went_on r len adr e el ea lo X ex h =
-      let l : 256 - k - 1 ≡ 256 - (k + 1) = omega arith in
+  pub went_on : (r : Result Listed Refusal) (len adr : ℕ) → descriptor_fits B (length w) (B + at) ≡ true → len ≡ le 8 w at → adr ≡ le 8 w (at + 8)
+      → l ≤ 256 → length old ≡ 256 → (X : Reading) → rest (l - 1) w B (B + at) t len adr ≡ X
+      → ScratchHolds X (256 - (l - 1)) (set old (256 - l) (B + at)) new r
+      → ScratchHolds (walk l w B (B + at) t) (256 - l) old new r
+  went_on r len adr e el ea le lo X ex h =
+      let m : 256 - (l - 1) ≡ 256 - l + 1 = omega arith in
       let o : B + at - B ≡ at = omega arith in
-      let x : rest (256 - k - 1) w B (B + at) t (length_of w B (B + at)) (address_of w B (B + at)) ≡ X =
-      rw (l, length_at w B (B + at), address_at w B (B + at) (omega arith), o, ← el, ← ea) ex in
-      rw (walk_more (256 - k) w B (B + at) t (λ z. absurd (omega arith)), e, x) (kept_after X k (B + at) old new r (omega arith) h)
+      let x : rest (l - 1) w B (B + at) t (length_of w B (B + at)) (address_of w B (B + at)) ≡ X =
+      rw (length_at w B (B + at), address_at w B (B + at) (omega arith), o, ← el, ← ea) ex in
+      rw (walk_more l w B (B + at) t some, e, x) (kept_after X (256 - l) (B + at) old new r (omega arith) (rw m at h))
 
-pub ended : (a t : ℕ) (next : ℕ → Reading) (k : ℕ) (old : List ℕ) → a ≡ 0
-    → ScratchHolds (jump_or_end a t next) k old old (Ok (record { count = k; total = t }))
+pub ended : (a t : ℕ) (next : ℕ → Reading) (k : ℕ) (old : List ℕ) → a ≡ 0 → ScratchHolds (jump_or_end a t next) k old old (Ok (record { count = k; total = t }))
 unfolding ScratchHolds jump_or_end
 ended a t next k old e = rw (e, add-zero) (refl, sym (append-nil (take k old)), refl)
 
-pub none_left : (w : List ℕ) (B a t k : ℕ) (old new : List ℕ) → ScratchHolds (walk 0 w B a t) k old new (Err DescriptorCount)
+pub none_left : (w : List ℕ) (B a t l k : ℕ) (old new : List ℕ) → l ≡ 0 → ScratchHolds (walk l w B a t) k old new (Err DescriptorCount)
 unfolding ScratchHolds walk
-none_left w B a t k old new = refl
+none_left w B a t l k old new e = rw e
 
--- where no descriptor fits, walks are the same
-no_walk : (w : List ℕ) (B a b t l : ℕ) → descriptor_fits B (length w) a ≡ false → descriptor_fits B (length w) b ≡ false
-    → walk l w B a t ≡ walk l w B b t
-unfolding walk
-no_walk w B a b t zero e f = refl
-no_walk w B a b t (suc l) e f = rw (e, f)
+pub below : (w : List ℕ) (B a t l k : ℕ) (old new : List ℕ) → (l ≡ 0 → ⊥) → a < B → ScratchHolds (walk l w B a t) k old new (Err DescriptorAddress)
+unfolding ScratchHolds descriptor_fits within
+below w B a t l k old new some h = rw walk_more (simp (lt-leb B a h, and-false))
 
--- an address's offset wraps where the address lies below the window; no descriptor fits there either
-pub wrapped : (w : List ℕ) (B a t l : ℕ) → B + length w ≤ 2 ^ 64 → a < 2 ^ 64 → B < 2 ^ 64
-    → walk l w B (B + (a + (2 ^ 64 - B)) % 2 ^ 64) t ≡ walk l w B a t
-unfolding descriptor_fits within
-wrapped w B a t l below fa fB =
-    ⊎_elim
-    (λ low. let e : B + (a + (2 ^ 64 - B)) % 2 ^ 64 ≡ a = omega arith in rw e)
-    (λ under.
-    let b = B + (a + (2 ^ 64 - B)) % 2 ^ 64 in
-    let high : B + length w < b + 16 = omega arith in
-    no_walk w B b a t l (simp (lt-leb (b + 16) (B + length w) high, and-false)) (simp (lt-leb B a under, and-false)))
-    (le_or_lt B a)
-
-pub jumped_on : (w : List ℕ) (B a t l k : ℕ) (old new : List ℕ) (r : Result Listed Refusal) → (a ≡ 0 → ⊥)
-    → ScratchHolds (walk l w B a t) k old new r
+pub jumped_on : (w : List ℕ) (B a t l k : ℕ) (old new : List ℕ) (r : Result Listed Refusal) → (a ≡ 0 → ⊥) → ScratchHolds (walk l w B a t) k old new r
     → ScratchHolds (jump_or_end a t (λ next. walk l w B next t)) k old new r
 unfolding jump_or_end
 jumped_on w B a t l k old new r some h = rw (ne_eqb a 0 some) h
-
--- the test of the window
-pub window_of : (B N : ℕ) (r : Bool) → r ≡ not (past_window_end B N) → r ≡ true → B + N ≤ 2 ^ 64
-window_of B N r is fits = ltb-false (2 ^ 64) (B + N) (not-true _ (sym is ∙ fits))

@@ -2,8 +2,8 @@
 // definitions by addresses (crate gather_window).
 #![tactic(auto)]
 
-ghost use Rattle.std.specs.Prelude.{◌≡◌, length, MatchOption};
-ghost use Rattle.gather_descriptors.specs.Reading.{length_of, reading};
+ghost use Rattle.std.specs.Prelude.{◌≡◌, ◌+◌, ◌-◌, ◌^◌, ◌≤◌, length, MatchOption};
+ghost use Rattle.gather_descriptors.specs.Reading.{jump_or_end, length_of, walk, reading};
 ghost use Rattle.gather_descriptors.specs.Scratch.{ScratchHolds, Readable, BlockIs};
 
 use fields::read64;
@@ -24,10 +24,73 @@ pub struct Listed {
     pub total: u64,
 }
 
+// Reads on with the descriptor at the offset `at`: a run of data descriptors, up to a jump or the end.
+// `left` descriptors may still be read, so 256 - left addresses stand in `ds` already. It is no loop, since the customer
+// names this form: the reader of runs calls that of jumps, and back, and the descriptors still allowed fall.
+#[cycle(jump_run)]
+fn run(
+    w: &[u8],
+    base: u64,
+    at: usize,
+    left: usize,
+    total: u64,
+    ds: &mut [u64; DESCRIPTOR_LIMIT],
+) -> Result<Listed, Refusal>
+    requires { (left ≤ 256) × (total ≤ 16777216) × (base + length w.now ≤ 2 ^ 64) × (length ds.old ≡ 256) }
+    ensures { ScratchHolds (walk left w.now base (base + at) total)
+        (256 - left) ds.old ds.new result }
+{
+    if left == 0 {
+        return Err(Refusal::DescriptorCount);
+    }
+    if !descriptor_fits(base, w.len(), at) {
+        return Err(Refusal::DescriptorAddress);
+    }
+    let k = DESCRIPTOR_LIMIT - left;
+    ds[k] = base + at as u64;
+    let size = read64(w, at);
+    let address = read64(w, at + 8);
+    if size == 0 {
+        return jump(w, base, address, left - 1, total, ds);
+    }
+    if !block_fits(base, w.len(), address, size) {
+        return Err(Refusal::BlockOutside);
+    }
+    if TOTAL_LIMIT - total < size {
+        return Err(Refusal::TotalLength);
+    }
+    run(w, base, at + 16, left - 1, total + size, ds)
+}
+
+// A descriptor of Length 0: the end, or the next run, which begins at the address.
+#[cycle(jump_run)]
+fn jump(
+    w: &[u8],
+    base: u64,
+    address: u64,
+    left: usize,
+    total: u64,
+    ds: &mut [u64; DESCRIPTOR_LIMIT],
+) -> Result<Listed, Refusal>
+    requires { (left ≤ 256) × (total ≤ 16777216) × (base + length w.now ≤ 2 ^ 64) × (length ds.old ≡ 256) }
+    ensures { ScratchHolds (jump_or_end address total (λ next. walk left w.now base next total))
+        (256 - left) ds.old ds.new result }
+{
+    if address == 0 {
+        let count = DESCRIPTOR_LIMIT - left;
+        return Ok(Listed { count, total });
+    }
+    if left == 0 {
+        return Err(Refusal::DescriptorCount);
+    }
+    if address < base {
+        return Err(Refusal::DescriptorAddress);
+    }
+    run(w, base, (address - base) as usize, left, total, ds)
+}
+
 // Reads the list whose first descriptor stands at `first`. Where it is whole, the addresses of its descriptors, in
-// list order, stand first in `ds`. An address below the window wraps to an offset past the window's end, where no
-// descriptor fits.
-#[tactic(auto, using(crate::proofs::Steps::inside, crate::proofs::Steps::window_of))]
+// list order, stand first in `ds`.
 pub fn read_list(
     w: &[u8],
     base: u64,
@@ -40,35 +103,10 @@ pub fn read_list(
     if !window_fits(base, w.len()) {
         return Err(Refusal::WindowEnd);
     }
-    let mut at = first.wrapping_sub(base) as usize;
-    let mut total = 0;
-    for k in 0..DESCRIPTOR_LIMIT {
-        if !descriptor_fits(base, w.len(), at) {
-            return Err(Refusal::DescriptorAddress);
-        }
-        ds[k] = base + at as u64;
-        let size = read64(w, at);
-        let address = read64(w, at + 8);
-        if size == 0 {
-            if address == 0 {
-                return Ok(Listed {
-                    count: k + 1,
-                    total,
-                });
-            }
-            at = address.wrapping_sub(base) as usize;
-            continue;
-        }
-        if !block_fits(base, w.len(), address, size) {
-            return Err(Refusal::BlockOutside);
-        }
-        if TOTAL_LIMIT - total < size {
-            return Err(Refusal::TotalLength);
-        }
-        at += 16;
-        total += size;
+    if first < base {
+        return Err(Refusal::DescriptorAddress);
     }
-    Err(Refusal::DescriptorCount)
+    run(w, base, (first - base) as usize, DESCRIPTOR_LIMIT, 0, ds)
 }
 
 // Where the block of the descriptor at the address d stands, by offsets in the window, if it has one.
@@ -78,10 +116,10 @@ pub fn block_at(w: &[u8], base: u64, d: u64) -> Option<Range<usize>>
     ensures { MatchOption result (length_of w.now base d ≡ 0) (BlockIs w.now base d) }
 {
     let at = (d - base) as usize;
-    let size = read64(w, at);
-    if size == 0 {
+    let length = read64(w, at);
+    if length == 0 {
         return None;
     }
     let from = (read64(w, at + 8) - base) as usize;
-    Some(from..from + size as usize)
+    Some(from..from + length as usize)
 }
