@@ -21,10 +21,10 @@ pub extern "C" fn meanderpeg_gather(
         ≡ exported_place (gathered w.old base first) place.old }
 {
     match gather::gather(w, base, first) {
-        Gathered::Refused(refusal) => refusal.number(),
-        Gathered::Placed { address, total } => {
+        Ok(Gathered { address, total }) => {
             *place = [address, total];
             0
         }
+        Err(refusal) => refusal.number(),
     }
 }

@@ -3,13 +3,13 @@ use mathlib.Core.Path.{◌≡◌}
 use mathlib.Core.List.{List}
 use Prim.Native.Nat.{ℕ, ◌-◌}
 use borrow.Author.Tests.{eq-eqb, ne_eqb}
+use Rattle.std.specs.Prelude.{Some, None}
 use Rattle.fields.specs.Number.{put}
 use Rattle.refusals.specs.Number.{number_of}
 use Rattle.refusals.specs.declared.Refusal.{Refusal}
 use Rattle.refusals.specs.declared.Refusal.TheVariants.{TotalZero, NoPlace}
 use Rattle.gather_descriptors.specs.Reading.{Reading, refused, whole, reading}
 use Rattle.gather_place.specs.Place.{place_for}
-use Rattle.gather_place.specs.declared.Place.TheVariants.{At, Nowhere}
 use Rattle.gather_blocks.specs.Blocks.{blocks}
 use Rattle.gather.specs.Gather.{refusal, place, copied_to, finished, gathered}
 
@@ -18,11 +18,12 @@ module _ (w : List ℕ) (B t : ℕ) (ds : List ℕ) where
   unfolding finished
   total_zero e = rw (eq-eqb t 0 e)
 
-  pub no_place : (t ≡ 0 → ⊥) → place_for w B t ds ≡ Nowhere → (refusal (number_of NoPlace), w) ≡ finished w B (whole t ds)
+  pub no_place : (t ≡ 0 → ⊥) → place_for w B t ds ≡ None → (refusal (number_of NoPlace), w) ≡ finished w B (whole t ds)
   unfolding finished copied_to
   no_place z e = rw (ne_eqb t 0 z, e)
 
-  pub at_place : (p : ℕ) → (t ≡ 0 → ⊥) → place_for w B t ds ≡ At p → (place p t, put w (p - B) (blocks w B ds)) ≡ finished w B (whole t ds)
+  pub at_place : (p : ℕ) → (t ≡ 0 → ⊥) → place_for w B t ds ≡ Some p
+      → (place p t, put w (p - B) (blocks w B ds)) ≡ finished w B (whole t ds)
   unfolding finished copied_to
   at_place p z e = rw (ne_eqb t 0 z, e)
 

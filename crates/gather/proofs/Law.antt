@@ -2,12 +2,13 @@
 use mathlib.Core.Path.{◌≡◌, refl, sym, ap, ◌∙◌}
 use mathlib.Core.Bool.{Bool, true, false, cond}
 use mathlib.Core.List.{List}
-use mathlib.Core.Logic.{◌⊎◌, inl, inr, ⊎_elim}
+use mathlib.Core.Logic.{inl, inr, ⊎_elim}
 use Prim.Native.Nat.{ℕ, ◌+◌, ◌-◌, ◌≤◌, ◌<◌}
 use native.Mathlib.Omega.{arith}
 use borrow.Author.Tests.{eqb-true, eqb-false}
 use lib.Dec.{eqb}
 use lib.ListN.{length}
+use Rattle.std.specs.Prelude.{Option, Some, None}
 use Rattle.fields.specs.Number.{put}
 use Rattle.fields.proofs.Tests.{positive}
 use Rattle.fields.proofs.Put.{put_length, put_inside, put_outside}
@@ -21,8 +22,6 @@ use Rattle.gather_descriptors.specs.Scratch.{lengths}
 use Rattle.gather_descriptors.proofs.Whole.{found, refused_early, whole_law, law_whole, fault_law, law_fault, loop_law}
 use Rattle.gather_place.specs.Place.{place_for}
 use Rattle.gather_place.specs.Law.{LowestFree, NoneFree}
-use Rattle.gather_place.specs.declared.Place.{Place}
-use Rattle.gather_place.specs.declared.Place.TheVariants.{At, Nowhere}
 use Rattle.gather_place.proofs.Law.{place_law, no_place_law, law_place, law_no_place}
 use Rattle.gather_blocks.specs.Blocks.{blocks}
 use Rattle.gather.specs.Gather.{Answer, refusal, place, copied_to, finished, gathered}
@@ -61,14 +60,15 @@ module _ (w : List ℕ) (B first : ℕ) where
   data Way : Outcome → Type 0 where
     by_list : (n : Refusal) → reading w B first ≡ refused n → Way (refusal (number_of n), w)
     by_total : (t : ℕ) (ds : List ℕ) → reading w B first ≡ whole t ds → t ≡ 0 → Way (refusal 6, w)
-    by_no_place : (t : ℕ) (ds : List ℕ) → reading w B first ≡ whole t ds → 0 < t → place_for w B t ds ≡ Nowhere → Way (refusal 7, w)
-    by_place : (t : ℕ) (ds : List ℕ) (q : ℕ) → reading w B first ≡ whole t ds → 0 < t → place_for w B t ds ≡ At q
+    by_no_place : (t : ℕ) (ds : List ℕ) → reading w B first ≡ whole t ds → 0 < t → place_for w B t ds ≡ None → Way (refusal 7, w)
+    by_place : (t : ℕ) (ds : List ℕ) (q : ℕ) → reading w B first ≡ whole t ds → 0 < t → place_for w B t ds ≡ Some q
         → Way (place q t, put w (q - B) (blocks w B ds))
 
-  way_at : (t : ℕ) (ds : List ℕ) (X : Place) → reading w B first ≡ whole t ds → 0 < t → place_for w B t ds ≡ X → Way (copied_to X w B t ds)
+  way_at : (t : ℕ) (ds : List ℕ) (X : Option ℕ) → reading w B first ≡ whole t ds → 0 < t → place_for w B t ds ≡ X
+      → Way (copied_to X w B t ds)
   unfolding copied_to
-  way_at t ds (At q) r some e = by_place t ds q r some e
-  way_at t ds Nowhere r some e = by_no_place t ds r some e
+  way_at t ds (Some q) r some e = by_place t ds q r some e
+  way_at t ds None r some e = by_no_place t ds r some e
 
   way_of : (t : ℕ) (ds : List ℕ) (b : Bool) → reading w B first ≡ whole t ds → eqb t 0 ≡ b
       → Way (cond b (refusal (number_of TotalZero), w) (copied_to (place_for w B t ds) w B t ds))
@@ -85,7 +85,7 @@ module _ (w : List ℕ) (B first : ℕ) where
   way = way_from (reading w B first) refl
 
   -- at the place
-  success : (t : ℕ) (ds : List ℕ) (q : ℕ) → reading w B first ≡ whole t ds → 0 < t → place_for w B t ds ≡ At q
+  success : (t : ℕ) (ds : List ℕ) (q : ℕ) → reading w B first ≡ whole t ds → 0 < t → place_for w B t ds ≡ Some q
       → Succeeded w B first q t (put w (q - B) (blocks w B ds))
   success t ds q r some e =
       let f = whole_law w B first t ds r in

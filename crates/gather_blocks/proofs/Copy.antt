@@ -8,13 +8,14 @@ use native.Mathlib.Nat.{add-zero}
 use native.Mathlib.Numerals.{add-one}
 use native.Mathlib.Omega.{arith}
 use lib.ListN.{length, get_or, take, drop, length-take, length-append, length-drop, take-append-drop}
-use lib.Seq.{get_or-take, get_or-drop, length-take-le, take-suc, take-take, ext_get_or}
+use lib.Seq.{paste, get_or-take, get_or-drop, length-take-le, take-suc, ext_get_or}
+use Rattle.std.specs.declared.ops.Range.{Range}
 use Rattle.fields.specs.Number.{le, put}
 use Rattle.fields.proofs.Tests.{le_or_lt}
 use Rattle.fields.proofs.Number.{le_same}
-use Rattle.fields.proofs.Put.{put_length, put_outside, put_more}
+use Rattle.fields.proofs.Put.{put_paste, put_length, put_outside, put_more}
 use Rattle.gather_descriptors.specs.Reading.{length_of, address_of}
-use Rattle.gather_descriptors.specs.Scratch.{Readable, AllReadable, lengths}
+use Rattle.gather_descriptors.specs.Scratch.{Readable, BlockIs, AllReadable, lengths}
 use Rattle.gather_descriptors.proofs.Steps.{length_at, address_at}
 use Rattle.gather_place.specs.Place.{clear_of, free}
 use Rattle.gather_place.proofs.Ranges.{clear_each, clear_descriptor, clear_block}
@@ -26,6 +27,15 @@ use Rattle.gather_blocks.specs.Copy.{Ready}
 put_nothing : (w : List ℕ) (q : ℕ) → w ≡ put w q []
 unfolding put
 put_nothing w q = simp (add-zero, append-nil, take-append-drop)
+
+-- a copy of the block
+pub block_put : (w : List ℕ) (B d q : ℕ) (r : Range ℕ) → Readable w B d → BlockIs w B d r
+    → paste w q (drop r.start w) (r.end - r.start) ≡ put w q (block w B d)
+unfolding block
+block_put w B d q r readable is =
+    let s : address_of w B d - B ≡ r.start = omega (arith, is.starts) in
+    let n : r.end - r.start ≡ length_of w B d = omega (arith, is.ends) in
+    rw (n, s) (put_paste w q (drop r.start w) (length_of w B d) (simp length-drop (omega (arith, is.starts, (readable.block is.some).1))))
 
 pub no_block : (w : List ℕ) (B d q : ℕ) → length_of w B d ≡ 0 → w ≡ put w q (block w B d)
 unfolding block
@@ -51,11 +61,17 @@ blocks_more w B [] d = append-nil (block w B d)
 blocks_more w B (x ∷ xs) d =
     ap (λ (l : List ℕ). block w B x ++ l) (blocks_more w B xs d) ∙ sym (append_assoc (block w B x) (blocks w B xs) (block w B d))
 
-pub blocks_length : (w : List ℕ) (B : ℕ) (ds : List ℕ) → AllReadable w B ds (length ds) → length (blocks w B ds) ≡ lengths w B ds
+pub blocks_length : (w : List ℕ) (B : ℕ) (ds : List ℕ) → AllReadable w B ds → length (blocks w B ds) ≡ lengths w B ds
 unfolding blocks lengths
 blocks_length w B [] h = refl
 blocks_length w B (d ∷ ds) h =
-    omega (arith, length-append (block w B d) (blocks w B ds), block_length w B d (h 0 (omega arith)), blocks_length w B ds (λ i lt. h (suc i) (omega arith)))
+    omega (
+      arith,
+      length-append (block w B d) (blocks w B ds),
+      block_length w B d (h 0 (omega arith)),
+      blocks_length w B ds
+          (λ i lt. h (suc i) (omega arith)),
+    )
 
 blocks_front : (w : List ℕ) (B : ℕ) (ds : List ℕ) (i : ℕ) → length (blocks w B (take i ds)) ≤ length (blocks w B ds)
 unfolding blocks
@@ -64,33 +80,24 @@ blocks_front w B [] (suc i) = omega arith
 blocks_front w B (d ∷ ds) zero = omega arith
 blocks_front w B (d ∷ ds) (suc i) = let h = blocks_front w B ds i in simp length-append (omega arith)
 
-module _ (w : List ℕ) (B : ℕ) (ds : List ℕ) (n p : ℕ) (fits : n ≤ length ds) (sound : AllReadable w B ds n)
-    (fr : free w B (lengths w B (take n ds)) (take n ds) (B + p) ≡ true) where
+module _ (w : List ℕ) (B : ℕ) (ds : List ℕ) (p : ℕ) (sound : AllReadable w B ds) (fr : free w B (lengths w B ds) ds (B + p) ≡ true) where
   abbrev total : ℕ
-  total = lengths w B (take n ds)
+  total = lengths w B ds
 
-  pub roomy : p + total ≤ length w
-  roomy = omega (arith, (free_parts w B total (take n ds) (B + p) fr).1)
+  roomy : p + total ≤ length w
+  roomy = omega (arith, (free_parts w B total ds (B + p) fr).1)
 
-  clear : (i : ℕ) → i < n → clear_of w B total (B + p) (get_or ds i 0) ≡ true
-  clear i h =
-      rw (get_or-take n ds i 0 h) at
-      (clear_each w B total (B + p) (take n ds) i (rw (length-take-le n ds fits) h) (free_parts w B total (take n ds) (B + p) fr).2)
+  clear : (i : ℕ) → i < length ds → clear_of w B total (B + p) (get_or ds i 0) ≡ true
+  clear i h = clear_each w B total (B + p) ds i h (free_parts w B total ds (B + p) fr).2
 
-  size : length (blocks w B (take n ds)) ≡ total
-  size =
-      blocks_length w B (take n ds) (λ i lt.
-      let l : i < n = rw (length-take-le n ds fits) at lt in
-      rw (get_or-take n ds i 0 l) (sound i l))
+  so_far : (i : ℕ) → length (blocks w B (take i ds)) ≤ total
+  so_far i = rw (blocks_length w B ds sound) at (blocks_front w B ds i)
 
-  so_far : (i : ℕ) → i ≤ n → length (blocks w B (take i ds)) ≤ total
-  so_far i h = rw size at (rw (take-take i n ds h) at (blocks_front w B (take n ds) i))
-
-  one_more : (i : ℕ) → i < n → blocks w B (take (i + 1) ds) ≡ blocks w B (take i ds) ++ block w B (get_or ds i 0)
-  one_more i h = rw (add-one, take-suc ds i 0 (omega arith), blocks_more)
+  one_more : (i : ℕ) → i < length ds → blocks w B (take (i + 1) ds) ≡ blocks w B (take i ds) ++ block w B (get_or ds i 0)
+  one_more i h = rw (add-one, take-suc ds i 0 h, blocks_more)
 
   -- turn i: the window x has the blocks before descriptor i at the place
-  module _ (i : ℕ) (h : i < n) where
+  module _ (i : ℕ) (h : i < length ds) where
     abbrev d : ℕ
     d = get_or ds i 0
 
@@ -102,7 +109,7 @@ module _ (w : List ℕ) (B : ℕ) (ds : List ℕ) (n p : ℕ) (fits : n ≤ leng
 
     room : length xs + length_of w B d ≤ total
     room =
-        omega (arith, so_far (i + 1) (omega arith), ap length (one_more i h), length-append xs (block w B d), block_length w B d (sound i h))
+        omega (arith, so_far (i + 1), ap length (one_more i h), length-append xs (block w B d), block_length w B d (sound i h))
 
     inside : p + length xs ≤ length w
     inside = omega (arith, roomy, room)
@@ -157,9 +164,6 @@ module _ (w : List ℕ) (B : ℕ) (ds : List ℕ) (n p : ℕ) (fits : n ≤ leng
         record {
           readable = still_readable;
           room = rw (same_length, put_length w p xs inside) (omega arith);
-          apart = rw (same_length, same_address) (λ z.
-              let b = (sound i h).block z in
-              ⊎_elim (λ g. inr (omega arith)) (λ g. inl (omega arith)) (b_apart z));
         }
 
     pub after : put x (p + length xs) (block x B d) ≡ put w p (blocks w B (take (i + 1) ds))

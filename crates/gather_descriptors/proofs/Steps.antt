@@ -12,12 +12,13 @@ use lib.ListN.{length, take, set, length-set}
 use lib.Seq.{take-suc-set, append_snoc}
 use Rattle.fields.specs.Number.{le}
 use Rattle.fields.proofs.Tests.{both}
+use Rattle.std.specs.Prelude.{Result, Ok, Err}
+use Rattle.refusals.specs.declared.Refusal.{Refusal}
 use Rattle.refusals.specs.declared.Refusal.TheVariants.{DescriptorCount, DescriptorAddress}
 use Rattle.gather_window.specs.Window.{within, descriptor_fits}
 use Rattle.gather_descriptors.specs.Reading.{Reading, refused, whole, with_descriptor, length_of, address_of, jump_or_end, data_block, walk}
 use Rattle.gather_descriptors.specs.Scratch.{ScratchHolds}
-use Rattle.gather_descriptors.specs.declared.Read.{Read}
-use Rattle.gather_descriptors.specs.declared.Read.TheVariants.{Refused, Whole}
+use Rattle.gather_descriptors.specs.declared.Listed.{Listed}
 
 -- both ends, of a descriptor and of a block
 pub within_ends : (B N a n : ℕ) → within B N a n ≡ true → (B ≤ a) × (a + n ≤ B + N)
@@ -65,7 +66,7 @@ unfolding walk
 walk_more zero w B a t f = absurd (f refl)
 walk_more (suc k) w B a t f = rw (sub-one (suc k))
 
-kept_after : (X : Reading) (k d : ℕ) (old new : List ℕ) (r : Read) → k < length old → ScratchHolds X (k + 1) (set old k d) new r → ScratchHolds (with_descriptor d X) k old new r
+kept_after : (X : Reading) (k d : ℕ) (old new : List ℕ) (r : Result Listed Refusal) → k < length old → ScratchHolds X (k + 1) (set old k d) new r → ScratchHolds (with_descriptor d X) k old new r
 unfolding ScratchHolds with_descriptor
 kept_after (refused n) k d old new r lt h = h
 kept_after (whole t ds) k d old new r lt h =
@@ -77,12 +78,12 @@ kept_after (whole t ds) k d old new r lt h =
     )
 
 module _ (w : List ℕ) (B at t l : ℕ) (old new : List ℕ) (some : l ≡ 0 → ⊥) where
-  pub bad_address : descriptor_fits B (length w) (B + at) ≡ false → ScratchHolds (walk l w B (B + at) t) (256 - l) old new (Refused DescriptorAddress)
+  pub bad_address : descriptor_fits B (length w) (B + at) ≡ false → ScratchHolds (walk l w B (B + at) t) (256 - l) old new (Err DescriptorAddress)
   unfolding ScratchHolds
   bad_address e = rw (walk_more l w B (B + at) t some, e)
 
   -- past the address test: the descriptor stands first, and what follows goes by its two numbers
-  pub went_on : (r : Read) (len adr : ℕ) → descriptor_fits B (length w) (B + at) ≡ true → len ≡ le 8 w at → adr ≡ le 8 w (at + 8)
+  pub went_on : (r : Result Listed Refusal) (len adr : ℕ) → descriptor_fits B (length w) (B + at) ≡ true → len ≡ le 8 w at → adr ≡ le 8 w (at + 8)
       → l ≤ 256 → length old ≡ 256 → (X : Reading) → rest (l - 1) w B (B + at) t len adr ≡ X
       → ScratchHolds X (256 - (l - 1)) (set old (256 - l) (B + at)) new r
       → ScratchHolds (walk l w B (B + at) t) (256 - l) old new r
@@ -93,19 +94,19 @@ module _ (w : List ℕ) (B at t l : ℕ) (old new : List ℕ) (some : l ≡ 0 �
       rw (length_at w B (B + at), address_at w B (B + at) (omega arith), o, ← el, ← ea) ex in
       rw (walk_more l w B (B + at) t some, e, x) (kept_after X (256 - l) (B + at) old new r (omega arith) (rw m at h))
 
-pub ended : (a t : ℕ) (next : ℕ → Reading) (k : ℕ) (old : List ℕ) → a ≡ 0 → ScratchHolds (jump_or_end a t next) k old old (Whole k t)
+pub ended : (a t : ℕ) (next : ℕ → Reading) (k : ℕ) (old : List ℕ) → a ≡ 0 → ScratchHolds (jump_or_end a t next) k old old (Ok (record { count = k; total = t }))
 unfolding ScratchHolds jump_or_end
 ended a t next k old e = rw (e, add-zero) (refl, sym (append-nil (take k old)), refl)
 
-pub none_left : (w : List ℕ) (B a t l k : ℕ) (old new : List ℕ) → l ≡ 0 → ScratchHolds (walk l w B a t) k old new (Refused DescriptorCount)
+pub none_left : (w : List ℕ) (B a t l k : ℕ) (old new : List ℕ) → l ≡ 0 → ScratchHolds (walk l w B a t) k old new (Err DescriptorCount)
 unfolding ScratchHolds walk
 none_left w B a t l k old new e = rw e
 
-pub below : (w : List ℕ) (B a t l k : ℕ) (old new : List ℕ) → (l ≡ 0 → ⊥) → a < B → ScratchHolds (walk l w B a t) k old new (Refused DescriptorAddress)
+pub below : (w : List ℕ) (B a t l k : ℕ) (old new : List ℕ) → (l ≡ 0 → ⊥) → a < B → ScratchHolds (walk l w B a t) k old new (Err DescriptorAddress)
 unfolding ScratchHolds descriptor_fits within
 below w B a t l k old new some h = rw walk_more (simp (lt-leb B a h, and-false))
 
-pub jumped_on : (w : List ℕ) (B a t l k : ℕ) (old new : List ℕ) (r : Read) → (a ≡ 0 → ⊥) → ScratchHolds (walk l w B a t) k old new r
+pub jumped_on : (w : List ℕ) (B a t l k : ℕ) (old new : List ℕ) (r : Result Listed Refusal) → (a ≡ 0 → ⊥) → ScratchHolds (walk l w B a t) k old new r
     → ScratchHolds (jump_or_end a t (λ next. walk l w B next t)) k old new r
 unfolding jump_or_end
 jumped_on w B a t l k old new r some h = rw (ne_eqb a 0 some) h

@@ -10,22 +10,26 @@ use borrow.Author.Tests.{ltb-true, ltb-false, lt-ltb, le-ltb, leb-true, leb-fals
 use lib.Dec.{leb, eqb}
 use lib.ListN.{length, get_or, take}
 use Rattle.fields.proofs.Tests.{positive, no_true, le_or_lt}
+use Rattle.std.specs.Prelude.{Ok, Err}
 use Rattle.refusals.specs.Number.{number_of}
 use Rattle.refusals.specs.declared.Refusal.{Refusal}
 use Rattle.refusals.specs.declared.Refusal.TheVariants.{WindowEnd, DescriptorCount, DescriptorAddress, BlockOutside, TotalLength}
 use Rattle.gather_window.specs.Window.{past_window_end, within, descriptor_fits}
-use Rattle.gather_descriptors.specs.Reading.{Reading, refused, whole, with_descriptor, length_of, address_of, jump_or_end, data_block, walk, reading, descriptor_limit, total_limit}
-use Rattle.gather_descriptors.specs.Law.{Inside, Outside, Link, past_block, by_jump, Links, none, more, Chain, link, end, Placed, Faultless, Fault, too_many, unaligned, not_inside, block_outside, total_passed, FirstFault, past_end, behind, ComesBack, ReadingLaws}
+use Rattle.gather_descriptors.specs.Reading.{Reading, refused, whole, with_descriptor, length_of, address_of, jump_or_end, data_block}
+use Rattle.gather_descriptors.specs.Reading.{walk, reading, descriptor_limit, total_limit}
+use Rattle.gather_descriptors.specs.Law.{Inside, Outside, Link, past_block, by_jump, Links, none, more, Chain, link, end, Placed}
+use Rattle.gather_descriptors.specs.Law.{Faultless, Fault, too_many, unaligned, not_inside, block_outside, total_passed, FirstFault}
+use Rattle.gather_descriptors.specs.Law.{past_end, behind, ComesBack, ReadingLaws}
 use Rattle.gather_descriptors.specs.Scratch.{ScratchHolds, AllReadable, lengths}
-use Rattle.gather_descriptors.specs.declared.Read.{Read}
-use Rattle.gather_descriptors.specs.declared.Read.TheVariants.{Refused, Whole}
+use Rattle.gather_descriptors.specs.declared.Listed.{Listed}
 use Rattle.gather_descriptors.proofs.Steps.{rest, walk_more, within_ends, within_of, descriptor_ends, descriptor_aligned, fits_of}
 
 -- ---- the tests, as facts
 outside_of : (w : List ℕ) (B a n : ℕ) → within B (length w) a n ≡ false → Outside w B a n
 outside_of w B a n e =
     ⊎_elim
-    (λ low. ⊎_elim (λ high. absurd (no_true (sym e ∙ within_of B (length w) a n low high))) (λ h. inr (omega arith)) (le_or_lt (a + n) (B + length w)))
+    (λ low. ⊎_elim (λ high. absurd (no_true (sym e ∙ within_of B (length w) a n low high))) (λ h. inr (omega arith))
+    (le_or_lt (a + n) (B + length w)))
     (λ h. inl (omega arith))
     (le_or_lt B a)
 
@@ -38,11 +42,13 @@ not_both : (w : List ℕ) (B a n : ℕ) → Outside w B a n → Inside w B a n �
 not_both w B a n (inl h) i = omega (arith, i.0)
 not_both w B a n (inr h) i = omega (arith, i.1)
 
-placed_fits : {w : List ℕ} {B : ℕ} {ds : List ℕ} → Placed w B ds → (i : ℕ) → i < length ds → descriptor_fits B (length w) (get_or ds i 0) ≡ true
+placed_fits : {w : List ℕ} {B : ℕ} {ds : List ℕ} → Placed w B ds → (i : ℕ) → i < length ds
+    → descriptor_fits B (length w) (get_or ds i 0) ≡ true
 placed_fits {w} {B} {ds} p i lt = fits_of B (length w) (get_or ds i 0) (p.aligned i lt) (p.inside i lt).0 (p.inside i lt).1
 
 placed_none : {w : List ℕ} {B : ℕ} → Placed w B []
-placed_none = record { aligned = λ i lt. absurd (omega arith); inside = λ i lt. absurd (omega arith); blocks = λ i lt. absurd (omega arith) }
+placed_none =
+    record { aligned = λ i lt. absurd (omega arith); inside = λ i lt. absurd (omega arith); blocks = λ i lt. absurd (omega arith) }
 
 placed_tail : {w : List ℕ} {B d : ℕ} {ds : List ℕ} → Placed w B (d ∷ ds) → Placed w B ds
 placed_tail p =
@@ -53,7 +59,8 @@ placed_tail p =
     }
 
 -- what holds of d and of each of ds holds of each of both
-each_cons : (P : ℕ → Type 0) (d : ℕ) (ds : List ℕ) → P d → ((i : ℕ) → i < length ds → P (get_or ds i 0)) → (i : ℕ) → i < length (d ∷ ds) → P (get_or (d ∷ ds) i 0)
+each_cons : (P : ℕ → Type 0) (d : ℕ) (ds : List ℕ) → P d → ((i : ℕ) → i < length ds → P (get_or ds i 0)) → (i : ℕ) → i < length (d ∷ ds)
+    → P (get_or (d ∷ ds) i 0)
 each_cons P d ds h hs zero lt = h
 each_cons P d ds h hs (suc i) lt = hs i (omega arith)
 
@@ -101,7 +108,8 @@ module _ (w : List ℕ) (B k a t : ℕ) (small : t ≤ total_limit) where
 
   -- past the address test
   module _ (few : k < descriptor_limit) (fit : descriptor_fits B (length w) a ≡ true) where
-    placed_cons : (ds : List ℕ) → (0 < length_of w B a → within B (length w) (address_of w B a) (length_of w B a) ≡ true) → Placed w B ds → Placed w B (a ∷ ds)
+    placed_cons : (ds : List ℕ) → (0 < length_of w B a → within B (length w) (address_of w B a) (length_of w B a) ≡ true) → Placed w B ds
+        → Placed w B (a ∷ ds)
     placed_cons ds b p =
         record {
           aligned = each_cons (λ (x : ℕ). x % 8 ≡ 0) a ds (descriptor_aligned B (length w) a fit) p.aligned;
@@ -122,7 +130,8 @@ module _ (w : List ℕ) (B k a t : ℕ) (small : t ≤ total_limit) where
         }
 
     -- one descriptor more in front of what was read on at b
-    one_more : (b s : ℕ) → Link w B a b → (0 < length_of w B a → within B (length w) (address_of w B a) (length_of w B a) ≡ true) → s ≡ t + length_of w B a
+    one_more : (b s : ℕ) → Link w B a b → (0 < length_of w B a → within B (length w) (address_of w B a) (length_of w B a) ≡ true)
+        → s ≡ t + length_of w B a
         → (X : Reading) → Good w B (k + 1) b s X → Good w B k a t (with_descriptor a X)
     unfolding Good with_descriptor lengths
     one_more b s l fits sum (refused n) g =
@@ -162,26 +171,32 @@ module _ (w : List ℕ) (B k a t : ℕ) (small : t ≤ total_limit) where
         let z = eqb-true len 0 e in
         by_cond P (eqb adr 0) (whole t []) (walk l w B adr t)
         (λ f. ended z (eqb-true adr 0 f))
-        (λ f. one_more adr t (by_jump z (positive adr (eqb-false adr 0 f)) refl) (λ lt. absurd (omega arith)) (omega arith) (walk l w B adr t) (on adr t small)))
+        (λ f. one_more adr t (by_jump z (positive adr (eqb-false adr 0 f)) refl) (λ lt. absurd (omega arith)) (omega arith)
+        (walk l w B adr t) (on adr t small)))
         (λ e.
         let some = positive len (eqb-false len 0 e) in
-        by_cond P (within B (length w) adr len) (cond (leb (t + len) total_limit) (next (t + len)) (refused TotalLength)) (refused BlockOutside)
+        by_cond P (within B (length w) adr len) (cond (leb (t + len) total_limit) (next (t + len)) (refused TotalLength))
+        (refused BlockOutside)
         (λ i.
         by_cond P (leb (t + len) total_limit) (next (t + len)) (refused TotalLength)
-        (λ f. one_more (a + 16) (t + len) (past_block some refl) (λ lt. i) refl (next (t + len)) (on (a + 16) (t + len) (leb-true (t + len) total_limit f)))
-        (λ f. stopped_here (omega arith) (total_passed few low ends some (within_ends B (length w) adr len i) (leb-false (t + len) total_limit f))))
+        (λ f. one_more (a + 16) (t + len) (past_block some refl) (λ lt. i) refl (next (t + len))
+        (on (a + 16) (t + len) (leb-true (t + len) total_limit f)))
+        (λ f. stopped_here (omega arith) (total_passed few low ends some (within_ends B (length w) adr len i)
+        (leb-false (t + len) total_limit f))))
         (λ o. stopped_here (omega arith) (block_outside few low ends some (outside_of w B adr len o))))
 
 good_walk : (l k : ℕ) (w : List ℕ) (B a t : ℕ) → l + k ≡ descriptor_limit → t ≤ total_limit → Good w B k a t (walk l w B a t)
 unfolding walk Good
 good_walk zero k w B a t sum small = stopped_here w B k a t small (omega arith) (too_many (omega arith))
 good_walk (suc l) k w B a t sum small =
-    by_cond (Good w B k a t) (descriptor_fits B (length w) a) (with_descriptor a (rest l w B a t (length_of w B a) (address_of w B a))) (refused DescriptorAddress)
+    by_cond (Good w B k a t) (descriptor_fits B (length w) a) (with_descriptor a (rest l w B a t (length_of w B a) (address_of w B a)))
+    (refused DescriptorAddress)
     (λ e. good_rest w B k a t small (omega arith) e l (λ b s h. good_walk l (k + 1) w B b s (omega arith) h))
     (λ e. stopped_here w B k a t small (omega arith) (misplaced w B k a t small (omega arith) e))
 
 -- ---- and back: what a walk makes of a faultless beginning
-link_walk : (w : List ℕ) (B l a b t : ℕ) (ds : List ℕ) → (l ≡ 0 → ⊥) → Placed w B (a ∷ ds) → t + length_of w B a ≤ total_limit → Link w B a b
+link_walk : (w : List ℕ) (B l a b t : ℕ) (ds : List ℕ) → (l ≡ 0 → ⊥) → Placed w B (a ∷ ds) → t + length_of w B a ≤ total_limit
+    → Link w B a b
     → walk l w B a t ≡ with_descriptor a (walk (l - 1) w B b (t + length_of w B a))
 unfolding jump_or_end data_block
 link_walk w B l a b t ds some p small (past_block len e) =
@@ -216,9 +231,16 @@ chain_walk w B l a t ds (link {b = b} {ds = on} x c) p count small =
     )
 chain_walk w B l a t ds (end len adr) p count small =
     let sum : t + (length_of w B a + 0) ≡ t = omega arith in
-    rw (walk_more l w B a t (λ z. absurd (omega arith)), placed_fits p 0 (omega arith), eq-eqb (length_of w B a) 0 len, eq-eqb (address_of w B a) 0 adr, sum)
+    rw (
+      walk_more l w B a t (λ z. absurd (omega arith)),
+      placed_fits p 0 (omega arith),
+      eq-eqb (length_of w B a) 0 len,
+      eq-eqb (address_of w B a) 0 adr,
+      sum,
+    )
 
-links_walk : (w : List ℕ) (B l a b t : ℕ) (ds : List ℕ) (n : Refusal) → Links w B a ds b → Placed w B ds → length ds ≤ l → t + lengths w B ds ≤ total_limit
+links_walk : (w : List ℕ) (B l a b t : ℕ) (ds : List ℕ) (n : Refusal) → Links w B a ds b → Placed w B ds → length ds ≤ l
+    → t + lengths w B ds ≤ total_limit
     → walk (l - length ds) w B b (t + lengths w B ds) ≡ refused n → walk l w B a t ≡ refused n
 unfolding lengths with_descriptor
 links_walk w B l a b t ds n none p count small e =
@@ -236,8 +258,10 @@ links_walk w B l a b t ds n (more {c = c} {ds = on} x ls) p count small e =
 fault_walk : (w : List ℕ) (B l k t a : ℕ) (n : Refusal) → l + k ≡ descriptor_limit → Fault w B k t a n → walk l w B a t ≡ refused n
 unfolding walk descriptor_fits data_block with_descriptor
 fault_walk w B l k t a n sum (too_many e) = let z : l ≡ 0 = omega arith in rw z
-fault_walk w B l k t a n sum (unaligned few h) = rw (walk_more l w B a t (λ z. absurd (omega arith)), ne_eqb (a % 8) 0 (λ z. absurd (omega arith)))
-fault_walk w B l k t a n sum (not_inside few o) = rw (walk_more l w B a t (λ z. absurd (omega arith))) (simp (not_within w B a 16 o, and-false))
+fault_walk w B l k t a n sum (unaligned few h) = rw
+    (walk_more l w B a t (λ z. absurd (omega arith)), ne_eqb (a % 8) 0 (λ z. absurd (omega arith)))
+fault_walk w B l k t a n sum (not_inside few o) = rw (walk_more l w B a t (λ z. absurd (omega arith)))
+    (simp (not_within w B a 16 o, and-false))
 fault_walk w B l k t a n sum (block_outside few low ends some o) =
     rw (
       walk_more l w B a t (λ z. absurd (omega arith)),
@@ -278,7 +302,8 @@ module _ (w : List ℕ) (B first : ℕ) where
   means =
       by_cond Means (past_window_end B (length w)) (refused WindowEnd) (walk 256 w B first 0)
       (λ e. past_end (ltb-true (2 ^ 64) (B + length w) e))
-      (λ e. means_good (ltb-false (2 ^ 64) (B + length w) e) (walk 256 w B first 0) (good_walk 256 0 w B first 0 (omega arith) (omega arith)))
+      (λ e. means_good (ltb-false (2 ^ 64) (B + length w) e) (walk 256 w B first 0)
+      (good_walk 256 0 w B first 0 (omega arith) (omega arith)))
 
   pub whole_law : (t : ℕ) (ds : List ℕ) → reading w B first ≡ whole t ds → Faultless w B first ds × (t ≡ lengths w B ds)
   unfolding Means
@@ -292,7 +317,8 @@ module _ (w : List ℕ) (B first : ℕ) where
   unfolding reading
   law_whole ds f =
       let z : 0 + lengths w B ds ≡ lengths w B ds = omega arith in
-      rw (le-ltb (2 ^ 64) (B + length w) f.window) (rw z at (chain_walk w B 256 first 0 ds f.chain f.placed f.count (omega (arith, f.total))))
+      rw (le-ltb (2 ^ 64) (B + length w) f.window)
+      (rw z at (chain_walk w B 256 first 0 ds f.chain f.placed f.count (omega (arith, f.total))))
 
   pub law_fault : (n : Refusal) → FirstFault w B first n → reading w B first ≡ refused n
   unfolding reading
@@ -307,7 +333,8 @@ module _ (w : List ℕ) (B first : ℕ) where
 abbrev Member : ℕ → List ℕ → Type 0
 Member x ds = (i : ℕ) × (i < length ds) × (get_or ds i 0 ≡ x)
 
-first_is : (P : ℕ → Type 0) {w : List ℕ} {B a b : ℕ} {ds : List ℕ} → Links w B a ds b → ((i : ℕ) → i < length ds → P (get_or ds i 0)) → P b → P a
+first_is : (P : ℕ → Type 0) {w : List ℕ} {B a b : ℕ} {ds : List ℕ} → Links w B a ds b → ((i : ℕ) → i < length ds → P (get_or ds i 0))
+    → P b → P a
 first_is P none each last = last
 first_is P (more x ls) each last = each 0 (omega arith)
 
@@ -372,7 +399,8 @@ module _ (w : List ℕ) (B first : ℕ) (k : ComesBack w B first) where
   by_fault n (past_end h) = absurd (omega (arith, k.window))
   by_fault n (behind ds next b f) = no_other (length ds) (lengths w B ds) next n (arrives first_in b.links) f
 
-  loop_of : (X : Reading) → reading w B first ≡ X → (reading w B first ≡ refused DescriptorCount) ⊎ (reading w B first ≡ refused TotalLength)
+  loop_of : (X : Reading) → reading w B first ≡ X
+      → (reading w B first ≡ refused DescriptorCount) ⊎ (reading w B first ≡ refused TotalLength)
   unfolding TwoOrFive
   loop_of (whole t ds) e = absurd (endless first_in (whole_law w B first t ds e).0.chain)
   loop_of (refused n) e = ⊎_elim (λ q. inl (e ∙ ap refused q)) (λ q. inr (e ∙ ap refused q)) (by_fault n (fault_law w B first n e))
@@ -393,7 +421,7 @@ reading_laws w B first =
 -- what the crates above go on from
 pub record Found (w : List ℕ) (B t : ℕ) (ds : List ℕ) : Type 0 where
   pub below : B + length w ≤ 2 ^ 64
-  pub readable : AllReadable w B ds (length ds)
+  pub readable : AllReadable w B ds
   pub total : t ≡ lengths w B ds
 
 pub found : (w : List ℕ) (B a t : ℕ) (ds : List ℕ) → reading w B a ≡ whole t ds → Found w B t ds
@@ -422,18 +450,18 @@ refused_early w B a n e = go (fault_law w B a n e)
     go (behind _ _ _ f) = by_fault f
 
 -- the answer and the array decide the reading
-pub was_refused : (X : Reading) (k : ℕ) (old new : List ℕ) (r : Read) (n : Refusal) → ScratchHolds X k old new r → r ≡ Refused n → X ≡ refused n
+pub was_refused : (X : Reading) (k : ℕ) (old new : List ℕ) (n : Refusal) → ScratchHolds X k old new (Err n) → X ≡ refused n
 unfolding ScratchHolds
-was_refused (refused m) k old new r n h e = cc
-was_refused (whole t ds) k old new r n h e = let z = h.0 in let b : ◌≡◌ {A = ℕ} 0 1 = cc in absurd (omega arith)
+was_refused (refused m) k old new n h = cc
+was_refused (whole t ds) k old new n h = let z = h.0 in cc
 
-pub was_whole : (X : Reading) (old new : List ℕ) (r : Read) (n t : ℕ) → ScratchHolds X 0 old new r → r ≡ Whole n t
-    → (X ≡ whole t (take n new)) × (n ≡ length (take n new)) × (length new ≡ length old)
+pub was_whole : (X : Reading) (old new : List ℕ) (l : Listed) → ScratchHolds X 0 old new (Ok l)
+    → (X ≡ whole l.total (take l.count new)) × (l.count ≡ length (take l.count new)) × (length new ≡ length old)
 unfolding ScratchHolds
-was_whole (refused m) old new r n t h e = let b : ◌≡◌ {A = ℕ} 0 1 = cc in absurd (omega arith)
-was_whole (whole T ds) old new r n t h e =
+was_whole (refused m) old new l h = cc
+was_whole (whole T ds) old new l h =
     let z = h.0 in
-    let en : 0 + length ds ≡ n = cc in
-    let et : T ≡ t = cc in
-    let ed : take n new ≡ ds = rw en at h.1 in
+    let en : 0 + length ds ≡ l.count = cc in
+    let et : T ≡ l.total = cc in
+    let ed : take l.count new ≡ ds = rw en at h.1 in
     (rw (et, ed), rw ed (omega arith), h.2)

@@ -1,6 +1,6 @@
 -- What reading the scattered list from a first descriptor gives (G2 to G11). w is the window's bytes, B the address of
 -- the first of them, and a descriptor is named by its own address, d or a. Assumes nothing.
-use Rattle.std.specs.Prelude.{ℕ, zero, suc, ◌+◌, Bool, true, false, cond, List, [], ◌∷◌, leb, eqb, length}
+use Rattle.std.specs.Prelude.{ℕ, zero, suc, ◌+◌, cond, List, [], ◌∷◌, leb, eqb, length}
 use Rattle.refusals.specs.declared.Refusal.{Refusal}
 use Rattle.refusals.specs.declared.Refusal.TheVariants.{WindowEnd, DescriptorCount, DescriptorAddress, BlockOutside, TotalLength}
 use Rattle.gather_window.specs.Window.{past_window_end, within, descriptor_fits, number64}

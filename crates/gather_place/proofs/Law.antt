@@ -3,15 +3,15 @@ use mathlib.Core.Path.{◌≡◌, refl, sym, ◌∙◌}
 use mathlib.Core.Bool.{Bool, true, false}
 use mathlib.Core.Logic.{◌⊎◌, ⊎_elim}
 use mathlib.Core.List.{List}
-use Prim.Native.Nat.{ℕ, suc, ◌+◌, ◌-◌, ◌<◌, ◌≤◌}
+use Prim.Native.Nat.{ℕ, suc, ◌+◌, ◌<◌, ◌≤◌}
 use native.Mathlib.Omega.{arith}
 use lib.ListN.{length, get_or}
 use borrow.Author.Tests.{le-leb, lt-leb}
+use Rattle.std.specs.Prelude.{Some, None}
 use Rattle.fields.proofs.Tests.{no_true, le_or_lt}
 use Rattle.gather_descriptors.specs.Reading.{length_of, address_of}
 use Rattle.gather_place.specs.Place.{apart, clear_of, free, place_for}
 use Rattle.gather_place.specs.Law.{SharesNoByte, Free, LowestFree, NoneFree}
-use Rattle.gather_place.specs.declared.Place.TheVariants.{At, Nowhere}
 use Rattle.gather_place.proofs.Ranges.{clear_descriptor, clear_block, clear_each, clear_no_block, clear_both, each_clear}
 use Rattle.gather_place.proofs.Search.{is_free, free_parts, found_at, none_before, found_none, lowest_at, lowest_none}
 
@@ -71,7 +71,7 @@ module _ (w : List ℕ) (B t : ℕ) (ds : List ℕ) where
     not_free p e f = no_true (sym e ∙ law_free p f)
 
     -- G12: the place that is found is free, and no lower start is
-    pub place_law : (p : ℕ) → place_for w B t ds ≡ At p → LowestFree w B t ds p
+    pub place_law : (p : ℕ) → place_for w B t ds ≡ Some p → LowestFree w B t ds p
     unfolding place_for
     place_law p e =
         let h = found_at (free w B t ds) (suc (length w)) B p e in
@@ -81,7 +81,7 @@ module _ (w : List ℕ) (B t : ℕ) (ds : List ℕ) where
         }
 
     -- none is found only where no start is free
-    pub no_place_law : place_for w B t ds ≡ Nowhere → NoneFree w B t ds
+    pub no_place_law : place_for w B t ds ≡ None → NoneFree w B t ds
     unfolding place_for
     no_place_law e q f = not_free q (found_none (free w B t ds) (suc (length w)) B e q f.low (omega (arith, f.high))) f
 
@@ -91,12 +91,12 @@ module _ (w : List ℕ) (B t : ℕ) (ds : List ℕ) where
     go_false j false e none = e
 
     -- and back: where no start is free none is found
-    pub law_no_place : NoneFree w B t ds → place_for w B t ds ≡ Nowhere
+    pub law_no_place : NoneFree w B t ds → place_for w B t ds ≡ None
     unfolding place_for
     law_no_place none = lowest_none (free w B t ds) (suc (length w)) B (λ j le. go_false j (free w B t ds j) refl (none j))
 
     -- a start that is free, below which none is, is the place
-    pub law_place : (p : ℕ) → LowestFree w B t ds p → place_for w B t ds ≡ At p
+    pub law_place : (p : ℕ) → LowestFree w B t ds p → place_for w B t ds ≡ Some p
     unfolding place_for
     law_place p l =
         let f = l.free in

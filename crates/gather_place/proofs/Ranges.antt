@@ -1,17 +1,21 @@
 -- Ranges that share no byte, and what is clear of the descriptors read. Assumes nothing.
-use mathlib.Core.Path.{◌≡◌, refl}
-use mathlib.Core.Bool.{true, false, ◌||◌, and-false}
+use mathlib.Core.Path.{◌≡◌, refl, sym, ◌∙◌}
+use mathlib.Core.Bool.{Bool, true, false, ◌||◌, and-false}
 use mathlib.Core.Logic.{◌⊎◌, inl, inr, ⊎_elim}
 use mathlib.Core.List.{List, [], ◌∷◌}
 use Prim.Native.Nat.{ℕ, zero, suc, ◌+◌, ◌-◌, ◌<◌, ◌≤◌}
 use native.Mathlib.Omega.{arith}
-use borrow.Author.Tests.{leb-true, leb-false, lt-leb, eq-eqb, eqb-true, ne_eqb}
+use borrow.Author.Tests.{leb-true, leb-false, lt-leb, eq-eqb, eqb-true, ne_eqb, not-true, not-false}
 use lib.Dec.{leb, eqb}
-use lib.ListN.{length, get_or, take}
-use lib.Seq.{get_or-take, length-take-le}
+use lib.ListN.{length, get_or}
+use Rattle.std.specs.Prelude.{Some, not}
+use Rattle.std.specs.declared.ops.Range.{Range}
+use Rattle.std.specs.Bool.{then_some}
 use Rattle.fields.proofs.Tests.{both, either, neither, same_test}
 use Rattle.gather_descriptors.specs.Reading.{length_of, address_of}
+use Rattle.gather_descriptors.specs.Scratch.{Readable, BlockIs}
 use Rattle.gather_place.specs.Place.{apart, clear_of, clear_of_all}
+use Rattle.gather_place.specs.Search.{NextStart}
 
 -- an address and its offset in the window
 pub apart_at : (B p t s n : ℕ) → B ≤ s → apart (B + p) t s n ≡ apart p t (s - B) n
@@ -48,7 +52,8 @@ module _ (w : List ℕ) (B t p d : ℕ) where
   unfolding clear_of
   clear_no_block a e = simp (a, eq-eqb (length_of w B d) 0 e)
 
-  pub clear_both : apart p t d 16 ≡ true → (length_of w B d ≡ 0 → ⊥) → apart p t (address_of w B d) (length_of w B d) ≡ true → clear_of w B t p d ≡ true
+  pub clear_both : apart p t d 16 ≡ true → (length_of w B d ≡ 0 → ⊥) → apart p t (address_of w B d) (length_of w B d) ≡ true
+      → clear_of w B t p d ≡ true
   unfolding clear_of
   clear_both a z e = simp (a, ne_eqb (length_of w B d) 0 z, e)
 
@@ -85,13 +90,29 @@ module _ (w : List ℕ) (B t p : ℕ) where
   clear_each (d ∷ ds) zero h e = (both (clear_of w B t p d) (clear_of_all w B t p ds) e).0
   clear_each (d ∷ ds) (suc i) h e = clear_each ds i (omega arith) (both (clear_of w B t p d) (clear_of_all w B t p ds) e).1
 
-  -- the same of the first n of an array
-  module _ (ds : List ℕ) (n : ℕ) (fits : n ≤ length ds) where
-    pub one_of_first : (i : ℕ) → i < n → clear_of w B t p (get_or ds i 0) ≡ false → clear_of_all w B t p (take n ds) ≡ false
-    one_of_first i h e = one_not_clear (take n ds) i (rw (length-take-le n ds fits) h) (rw (get_or-take n ds i 0 h) e)
+-- the first start that the descriptor at d leaves, where the t bytes at the offset p meet it
+pub past_descriptor : (w : List ℕ) (B d p t : ℕ) → Readable w B d → apart p t (d - B) 16 ≡ false
+    → NextStart (λ q. clear_of w B t (B + q) d) (length w) p (Some (d - B + 16))
+past_descriptor w B d p t r e =
+    let m = meets p t (d - B) 16 e in
+    (m.0, omega (arith, r.high), λ q le lt. meets_descriptor w B t (B + q) d (apart_at B q t d 16 r.low ∙ m.1 q le lt))
 
-    pub each_of_first : ((i : ℕ) → i < n → clear_of w B t p (get_or ds i 0) ≡ true) → clear_of_all w B t p (take n ds) ≡ true
-    each_of_first h =
-        each_clear (take n ds) (λ i lt.
-        let l : i < n = rw (length-take-le n ds fits) at lt in
-        rw (get_or-take n ds i 0 l) (h i l))
+-- the first that its block leaves, or none, where they are clear of the descriptor itself
+pub past_block : (w : List ℕ) (B d p t : ℕ) (r : Range ℕ) → Readable w B d → BlockIs w B d r → apart (B + p) t d 16 ≡ true
+    → (n : ℕ) → n ≡ length_of w B d → (b : Bool) → b ≡ not (apart p t r.start n)
+    → NextStart (λ q. clear_of w B t (B + q) d) (length w) p (then_some b r.end)
+past_block w B d p t r readable is clear n en true e =
+    let s : address_of w B d - B ≡ r.start = omega (arith, is.starts) in
+    let low : B ≤ address_of w B d = omega (arith, is.starts) in
+    let m = meets p t r.start n (not-true _ (sym e)) in (
+      omega (arith, m.0, is.ends),
+      omega (arith, is.ends, is.starts, (readable.block is.some).1),
+      λ q le lt.
+          meets_block w B t (B + q) d (λ z. absurd (omega (arith, is.some)))
+          (apart_at B q t (address_of w B d) (length_of w B d) low ∙ rw (s, ← en) (m.1 q le (omega (arith, is.ends)))),
+    )
+past_block w B d p t r readable is clear n en false e =
+    let s : address_of w B d - B ≡ r.start = omega (arith, is.starts) in
+    let low : B ≤ address_of w B d = omega (arith, is.starts) in
+    clear_both w B t (B + p) d clear (λ z. absurd (omega (arith, is.some)))
+    (apart_at B p t (address_of w B d) (length_of w B d) low ∙ rw (s, ← en) (not-false _ (sym e)))

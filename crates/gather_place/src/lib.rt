@@ -3,102 +3,60 @@
 // and descriptors are tried, each once: at most 512 starts (G16).
 #![tactic(auto)]
 
-ghost use Rattle.std.specs.Prelude.{◌≡◌, not, ◌+◌, ◌^◌, ◌≤◌, ◌<◌, length, take};
+ghost use Rattle.std.specs.Prelude.{◌≡◌, not, ◌+◌, ◌^◌, ◌≤◌, ◌<◌, length};
 ghost use Rattle.gather_descriptors.specs.Scratch.{Readable, AllReadable};
 ghost use Rattle.gather_place.specs.Place.{apart, clear_of, clear_of_all, place_for};
 ghost use Rattle.gather_place.specs.Search.{NextStart};
 
-use fields::read64;
-use gather_descriptors::DESCRIPTOR_LIMIT;
-
-// The address of the lowest free start, or that there is none.
-#[derive(Clone, Copy)]
-pub enum Place {
-    At(u64),
-    Nowhere,
-}
+use gather_descriptors::block_at;
 
 // Whether the t bytes at the offset p and the n bytes at the offset s share one.
+#[tactic(auto, unfolding(crate::specs::Place::apart))]
 fn share(p: usize, t: usize, s: usize, n: usize) -> bool
     requires { (p + t < 2 ^ 64) × (s + n < 2 ^ 64) }
     ensures { result ≡ not (apart p t s n) }
 {
-    if s + n <= p {
-        return false;
-    }
-    if p + t <= s {
-        return false;
-    }
-    true
+    p < s + n && s < p + t
 }
 
 // Where the t bytes at the offset p share one with the descriptor at the address d or with its block: that one's end.
-// Else 0.
-fn shared_end(w: &[u8], base: u64, d: u64, p: usize, t: usize) -> usize
+fn shared_end(w: &[u8], base: u64, d: u64, p: usize, t: usize) -> Option<usize>
     requires { Readable w.now base d × (p + t ≤ length w.now) }
     ensures { NextStart (λ q. clear_of w.now base t (base + q) d) (length w.now) p result }
 {
     let at = (d - base) as usize;
     if share(p, t, at, 16) {
-        return at + 16;
+        return Some(at + 16);
     }
-    let size = read64(w, at);
-    if size == 0 {
-        return 0;
-    }
-    let s = (read64(w, at + 8) - base) as usize;
-    let n = size as usize;
-    if share(p, t, s, n) {
-        return s + n;
-    }
-    0
+    let block = block_at(w, base, d)?;
+    share(p, t, block.start, block.len()).then_some(block.end)
 }
 
-// The same for the first of the descriptors read, in list order, that has such an end.
-fn next_start(
-    w: &[u8],
-    base: u64,
-    ds: &[u64; DESCRIPTOR_LIMIT],
-    count: usize,
-    p: usize,
-    t: usize,
-) -> usize
-    requires { (count ≤ 256) × (length ds.now ≡ 256) × AllReadable w.now base ds.now count × (p + t ≤ length w.now) }
-    ensures { NextStart (λ q. clear_of_all w.now base t (base + q) (take count ds.now))
+// The same for the first of the descriptors, in list order, that has such an end.
+fn next_start(w: &[u8], base: u64, descriptors: &[u64], p: usize, t: usize) -> Option<usize>
+    requires { AllReadable w.now base descriptors.now × (p + t ≤ length w.now) }
+    ensures { NextStart (λ q. clear_of_all w.now base t (base + q) descriptors.now)
         (length w.now) p result }
 {
-    let mut i = 0;
-    while i < count {
-        let end = shared_end(w, base, ds[i], p, t);
-        if end != 0 {
-            return end;
+    for d in descriptors {
+        if let Some(end) = shared_end(w, base, *d, p, t) {
+            return Some(end);
         }
-        i += 1;
     }
-    0
+    None
 }
 
-// The lowest free start for t bytes.
-pub fn find_place(
-    w: &[u8],
-    base: u64,
-    ds: &[u64; DESCRIPTOR_LIMIT],
-    count: usize,
-    t: usize,
-) -> Place
-    requires { (count ≤ 256) × (length ds.now ≡ 256) × AllReadable w.now base ds.now count
-        × (base + length w.now ≤ 2 ^ 64) × (0 < t) }
-    ensures { result ≡ place_for w.now base t (take count ds.now) }
+// The address of the lowest free start for t bytes, if there is one.
+pub fn find_place(w: &[u8], base: u64, descriptors: &[u64], t: usize) -> Option<u64>
+    requires { AllReadable w.now base descriptors.now × (base + length w.now ≤ 2 ^ 64) × (0 < t) }
+    ensures { result ≡ place_for w.now base t descriptors.now }
 {
-    let n = w.len();
     let mut p = 0;
-    while t <= n - p {
-        let end = next_start(w, base, ds, count, p, t);
-        if end == 0 {
-            let address = base + p as u64;
-            return Place::At(address);
-        }
+    while t <= w.len() - p {
+        let Some(end) = next_start(w, base, descriptors, p, t) else {
+            return Some(base + p as u64);
+        };
         p = end;
     }
-    Place::Nowhere
+    None
 }

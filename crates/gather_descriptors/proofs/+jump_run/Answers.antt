@@ -1,17 +1,15 @@
 -- `run` and `jump` meet their contracts. Assumes nothing.
 use mathlib.Core.Path.{◌≡◌, refl, sym, ◌∙◌}
 use mathlib.Core.Bool.{Bool, true}
-use mathlib.Core.List.{List}
 use Prim.Native.Nat.{ℕ, ◌+◌, ◌-◌, ◌≤◌}
 use native.Mathlib.Omega.{arith}
 use borrow.Author.Tests.{eq-eqb, ne_eqb, le-leb, lt-leb}
-use lib.ListN.{length, set, length-set}
+use lib.ListN.{length, length-set}
 use Rattle.refusals.specs.declared.Refusal.TheVariants.{BlockOutside, TotalLength}
 use Rattle.gather_window.specs.Window.{descriptor_fits}
-use Rattle.gather_descriptors.specs.Reading.{Reading, refused, walk, jump_or_end, data_block, total_limit}
+use Rattle.gather_descriptors.specs.Reading.{refused, walk, jump_or_end, data_block, total_limit}
 use Rattle.gather_descriptors.specs.Scratch.{ScratchHolds}
-use Rattle.gather_descriptors.specs.declared.Read.{Read}
-use Rattle.gather_descriptors.proofs.Steps.{rest, descriptor_ends, bad_address, went_on, ended, none_left, below, jumped_on}
+use Rattle.gather_descriptors.proofs.Steps.{descriptor_ends, bad_address, went_on, ended, none_left, below, jumped_on}
 use Rattle.gather_descriptors.proofs.+jump_run.Goals as goal
 
 pub jump-returns-then-address-eq0 : goal.jump-returns-then-address-eq0

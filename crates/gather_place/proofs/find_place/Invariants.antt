@@ -2,12 +2,12 @@
 use mathlib.Core.Path.{◌≡◌}
 use mathlib.Core.Bool.{false}
 use Prim.Native.Nat.{ℕ, ◌+◌, ◌-◌, ◌≤◌, ◌<◌}
-use lib.ListN.{length, take}
+use lib.ListN.{length}
 use Rattle.gather_place.specs.Place.{free}
 use Rattle.gather_place.proofs.find_place.Given as goal
 
 abbrev pub invariant-loop-p : goal.invariant-loop-p
-invariant-loop-p l = (l.n ≡ length l.w) × (l.p ≤ l.n) × ((q : ℕ) → q < l.p → free l.w l.base l.t (take l.count l.ds) (l.base + q) ≡ false)
+invariant-loop-p l = (l.p ≤ length l.w) × ((q : ℕ) → q < l.p → free l.w l.base l.t l.descriptors (l.base + q) ≡ false)
 
 abbrev pub decreases-loop-p : goal.decreases-loop-p
-decreases-loop-p l = l.n - l.p
+decreases-loop-p l = length l.w - l.p

@@ -4,105 +4,33 @@ use mathlib.Core.Bool.{true}
 use Prim.Native.Nat.{ℕ, ◌+◌, ◌-◌, ◌≤◌}
 use native.Mathlib.Omega.{arith}
 use borrow.Author.Tests.{not-true, not-false}
-use lib.ListN.{length}
-use Rattle.gather_descriptors.specs.Reading.{length_of, address_of}
-use Rattle.gather_descriptors.proofs.Steps.{length_at, address_at}
-use Rattle.gather_place.specs.Place.{apart, clear_of}
-use Rattle.gather_place.proofs.Ranges.{apart_at, meets, meets_descriptor, meets_block, clear_no_block, clear_both}
-use Rattle.gather_place.proofs.Search.{passed_over, passes}
+use Rattle.gather_descriptors.specs.Reading.{length_of}
+use Rattle.gather_place.specs.Place.{apart}
+use Rattle.gather_place.proofs.Ranges.{apart_at, clear_no_block, past_descriptor, past_block}
 use Rattle.gather_place.proofs.shared_end.Goals as goal
 
 pub returns-then-share : goal.returns-then-share
 returns-then-share c =
     let a = c.args in
-    let w = a.w.now in
-    let m = meets a.p a.t (a.d - a.base) 16 (not-true _ (sym c.share.ensures ∙ c.if-share.true)) in
-    let r = c.requires.0 in
-    passed_over (λ (q : ℕ). clear_of w a.base a.t (a.base + q) a.d) (length w) a.p (a.d - a.base + 16) m.0 (omega arith)
-    (λ q le lt. meets_descriptor w a.base a.t (a.base + q) a.d (apart_at a.base q a.t a.d 16 r.low ∙ m.1 q le lt))
+    past_descriptor a.w.now a.base a.d a.p a.t c.requires.0 (not-true _ (sym c.if-share.ensures))
 
-pub returns-then-size-eq0 : goal.returns-then-size-eq0
-returns-then-size-eq0 c =
-    let clear_descriptor : apart (c.args.base + c.args.p) c.args.t c.args.d 16 ≡ true = let a = c.args in
-    apart_at a.base a.p a.t a.d 16 c.requires.0.low
-    ∙ not-false _ (sym c.share.ensures ∙ c.if-share.false) in
+-- an address and its offset
+clear_at : (B p t d : ℕ) → B ≤ d → apart p t (d - B) 16 ≡ true → apart (B + p) t d 16 ≡ true
+clear_at B p t d low e = apart_at B p t d 16 low ∙ e
+
+pub returns-in_err-block : goal.returns-in_err-block
+returns-in_err-block c =
     let a = c.args in
-    let w = a.w.now in
-    passes (λ (q : ℕ). clear_of w a.base a.t (a.base + q) a.d) (length w) a.p
-    (clear_no_block w a.base a.t (a.base + a.p) a.d clear_descriptor
-    (length_at w a.base a.d ∙ sym c.read64-size.ensures ∙ c.if-size-eq0.true))
-
-pub overflow_sub-s : goal.overflow_sub-s
-overflow_sub-s c =
-    let numbers : (length_of c.args.w.now c.args.base c.args.d ≡ c.read64-size.result) × (address_of c.args.w.now c.args.base c.args.d ≡ c.read64.result) = let a = c.args in (
-      length_at a.w.now a.base a.d ∙ sym c.read64-size.ensures,
-      address_at a.w.now a.base a.d c.requires.0.low ∙ sym c.read64.ensures,
-    ) in
-    let block_in : (c.args.base ≤ c.read64.result) × (c.read64.result + c.read64-size.result ≤ c.args.base + length c.args.w.now) = let n = numbers in
-    let h = c.requires.0.block (omega arith) in
-    (omega arith, omega arith) in
-    block_in.0
-
-pub share-requires-2 : goal.share-requires-2
-share-requires-2 c =
-    let numbers : (length_of c.args.w.now c.args.base c.args.d ≡ c.read64-size.result) × (address_of c.args.w.now c.args.base c.args.d ≡ c.read64.result) = let a = c.args in (
-      length_at a.w.now a.base a.d ∙ sym c.read64-size.ensures,
-      address_at a.w.now a.base a.d c.requires.0.low ∙ sym c.read64.ensures,
-    ) in
-    let block_in : (c.args.base ≤ c.read64.result) × (c.read64.result + c.read64-size.result ≤ c.args.base + length c.args.w.now) = let n = numbers in
-    let h = c.requires.0.block (omega arith) in
-    (omega arith, omega arith) in
-    omega (arith, block_in)
-
-pub overflow_add-result-then-share-2 : goal.overflow_add-result-then-share-2
-overflow_add-result-then-share-2 c =
-    let numbers : (length_of c.args.w.now c.args.base c.args.d ≡ c.read64-size.result) × (address_of c.args.w.now c.args.base c.args.d ≡ c.read64.result) = let a = c.args in (
-      length_at a.w.now a.base a.d ∙ sym c.read64-size.ensures,
-      address_at a.w.now a.base a.d c.requires.0.low ∙ sym c.read64.ensures,
-    ) in
-    let block_in : (c.args.base ≤ c.read64.result) × (c.read64.result + c.read64-size.result ≤ c.args.base + length c.args.w.now) = let n = numbers in
-    let h = c.requires.0.block (omega arith) in
-    (omega arith, omega arith) in
-    omega (arith, block_in)
-
-pub returns-then-share-2 : goal.returns-then-share-2
-returns-then-share-2 c =
-    let numbers : (length_of c.args.w.now c.args.base c.args.d ≡ c.read64-size.result) × (address_of c.args.w.now c.args.base c.args.d ≡ c.read64.result) = let a = c.args in (
-      length_at a.w.now a.base a.d ∙ sym c.read64-size.ensures,
-      address_at a.w.now a.base a.d c.requires.0.low ∙ sym c.read64.ensures,
-    ) in
-    let block_in : (c.args.base ≤ c.read64.result) × (c.read64.result + c.read64-size.result ≤ c.args.base + length c.args.w.now) = let n = numbers in
-    let h = c.requires.0.block (omega arith) in
-    (omega arith, omega arith) in
-    let a = c.args in
-    let w = a.w.now in
-    let n = numbers in
-    let b = block_in in
-    let size = c.read64-size.result in
-    let at = c.read64.result - a.base in
-    let m = meets a.p a.t at size (not-true _ (sym c.share-2.ensures ∙ c.if-share-2.true)) in
-    passed_over (λ (q : ℕ). clear_of w a.base a.t (a.base + q) a.d) (length w) a.p (at + size) m.0 (omega arith)
-    (λ q le lt.
-    meets_block w a.base a.t (a.base + q) a.d (λ z. c.if-size-eq0.false (sym n.0 ∙ z))
-    (rw (n.0, n.1) (apart_at a.base q a.t c.read64.result size b.0 ∙ m.1 q le lt)))
+    rw c.from_residual.ensures
+    (clear_no_block a.w.now a.base a.t (a.base + a.p) a.d
+    (clear_at _ _ _ _ c.requires.0.low (not-false _ (sym c.if-share.ensures)))
+    c.in_err-block.ensures)
 
 pub returns : goal.returns
 returns c =
-    let clear_descriptor : apart (c.args.base + c.args.p) c.args.t c.args.d 16 ≡ true = let a = c.args in
-    apart_at a.base a.p a.t a.d 16 c.requires.0.low
-    ∙ not-false _ (sym c.share.ensures ∙ c.if-share.false) in
-    let numbers : (length_of c.args.w.now c.args.base c.args.d ≡ c.read64-size.result) × (address_of c.args.w.now c.args.base c.args.d ≡ c.read64.result) = let a = c.args in (
-      length_at a.w.now a.base a.d ∙ sym c.read64-size.ensures,
-      address_at a.w.now a.base a.d c.requires.0.low ∙ sym c.read64.ensures,
-    ) in
-    let block_in : (c.args.base ≤ c.read64.result) × (c.read64.result + c.read64-size.result ≤ c.args.base + length c.args.w.now) = let n = numbers in
-    let h = c.requires.0.block (omega arith) in
-    (omega arith, omega arith) in
     let a = c.args in
-    let w = a.w.now in
-    let n = numbers in
-    let size = c.read64-size.result in
-    passes (λ (q : ℕ). clear_of w a.base a.t (a.base + q) a.d) (length w) a.p
-    (clear_both w a.base a.t (a.base + a.p) a.d clear_descriptor (λ z. c.if-size-eq0.false (sym n.0 ∙ z))
-    (rw (n.0, n.1)
-    (apart_at a.base a.p a.t c.read64.result size block_in.0 ∙ not-false _ (sym c.share-2.ensures ∙ c.if-share-2.false))))
+    let b = c.in_ok-block.ensures in
+    let n : c.len.result ≡ length_of a.w.now a.base a.d = omega (arith, c.len.ensures.value, b.ends) in
+    rw c.then_some.ensures
+    (past_block a.w.now a.base a.d a.p a.t c.in_ok-block.block c.requires.0 b
+    (clear_at _ _ _ _ c.requires.0.low (not-false _ (sym c.if-share.ensures))) _ n _ c.share-2.ensures)
