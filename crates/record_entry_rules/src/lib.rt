@@ -19,14 +19,7 @@ fn bank_words(r: &[u8], banks: usize, images: usize, i: usize, from: usize, limi
     requires { Sized r.now banks images × (i < images) × (from ≤ 20) }
     ensures { result ≡ bank_words r.now banks from limit i }
 {
-    let mut b = 0;
-    while b < banks {
-        if limit < bank_word(r, banks, i, b, from) {
-            return false;
-        }
-        b += 1;
-    }
-    true
+    (0..banks).all(|b| bank_word(r, banks, i, b, from) <= limit)
 }
 
 // The same for every image.
@@ -34,14 +27,7 @@ fn all_words(r: &[u8], banks: usize, images: usize, from: usize, limit: u32) -> 
     requires { Sized r.now banks images × (from ≤ 20) }
     ensures { result ≡ below images (bank_words r.now banks from limit) }
 {
-    let mut i = 0;
-    while i < images {
-        if !bank_words(r, banks, images, i, from, limit) {
-            return false;
-        }
-        i += 1;
-    }
-    true
+    (0..images).all(|i| bank_words(r, banks, images, i, from, limit))
 }
 
 // R13: reserved fields are 0.
@@ -49,16 +35,10 @@ pub fn reserved_rule(r: &[u8], banks: usize, images: usize) -> bool
     requires { Sized r.now banks images }
     ensures { result ≡ reserved_rule r.now }
 {
-    if read16(r, RESERVED16_AT) != 0 {
-        return false;
-    }
-    if read32(r, RESERVED32_AT) != 0 {
-        return false;
-    }
-    if r[RESERVED8_AT] != 0 {
-        return false;
-    }
-    all_words(r, banks, images, RESERVED_FROM, 0)
+    read16(r, RESERVED16_AT) == 0
+        && read32(r, RESERVED32_AT) == 0
+        && r[RESERVED8_AT] == 0
+        && all_words(r, banks, images, RESERVED_FROM, 0)
 }
 
 // R15: accepted fields are 0 or 1.
@@ -74,16 +54,7 @@ fn guid_differs(s: &[u8], first: usize, step: usize, i: usize, at: usize) -> boo
     requires { (at ≡ first + i * step) × (at + 16 ≤ length s.now) }
     ensures { result ≡ below i (λ j. not (same (guid_every step first s.now j) (guid_every step first s.now i))) }
 {
-    let mut from = first;
-    let mut j = 0;
-    while j < i {
-        if same_guid(s, from, s, at) {
-            return false;
-        }
-        from += step;
-        j += 1;
-    }
-    true
+    (0..i).all(|j| !same_guid(s, first + j * step, s, at))
 }
 
 // Whether n GUIDs that stand `step` bytes apart, the first at `first`, are all different. It serves directory_reader.
@@ -91,16 +62,7 @@ pub fn guids_differ(s: &[u8], first: usize, step: usize, n: usize) -> bool
     requires { (16 ≤ step) × (first + n * step ≤ length s.now) }
     ensures { result ≡ distinct n (guid_every step first s.now) }
 {
-    let mut at = first;
-    let mut i = 0;
-    while i < n {
-        if !guid_differs(s, first, step, i, at) {
-            return false;
-        }
-        at += step;
-        i += 1;
-    }
-    true
+    (0..n).all(|i| guid_differs(s, first, step, i, first + i * step))
 }
 
 // R16: type GUIDs are all different.

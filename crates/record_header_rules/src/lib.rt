@@ -26,11 +26,7 @@ pub fn bank_count_rule(r: &[u8]) -> bool
     requires { header_size ≤ length r.now }
     ensures { result ≡ bank_count_rule r.now }
 {
-    let banks = bank_count(r);
-    if banks < 2 {
-        return false;
-    }
-    banks <= BANK_LIMIT
+    (2..=BANK_LIMIT).contains(&bank_count(r))
 }
 
 // R8: 1 to 32 images.
@@ -38,11 +34,7 @@ pub fn image_count_rule(r: &[u8]) -> bool
     requires { header_size ≤ length r.now }
     ensures { result ≡ image_count_rule r.now }
 {
-    let images = image_count(r);
-    if images < 1 {
-        return false;
-    }
-    images <= IMAGE_LIMIT
+    (1..=IMAGE_LIMIT).contains(&image_count(r))
 }
 
 // R9: the bank entry size.
@@ -67,10 +59,7 @@ pub fn size_rule(r: &[u8]) -> bool
     ensures { result ≡ size_rule r.now }
 {
     let n = size(r) as usize;
-    if n != HEADER + image_count(r) * entry_size(bank_count(r)) {
-        return false;
-    }
-    r.len() == n
+    n == HEADER + image_count(r) * entry_size(bank_count(r)) && r.len() == n
 }
 
 // R12: the descriptor offset.
@@ -87,8 +76,5 @@ pub fn banks_named_rule(r: &[u8]) -> bool
     ensures { result ≡ banks_named_rule r.now }
 {
     let banks = bank_count(r);
-    if banks <= active(r) as usize {
-        return false;
-    }
-    (previous(r) as usize) < banks
+    (active(r) as usize) < banks && (previous(r) as usize) < banks
 }

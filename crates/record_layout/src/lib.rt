@@ -76,14 +76,7 @@ pub fn record_in(c: &[u8]) -> &[u8]
     requires { header_size ≤ length c.now }
     ensures { result.now ≡ record_of c.now }
 {
-    let n = size(c) as usize;
-    if n < HEADER {
-        return &c[0..HEADER];
-    }
-    if c.len() < n {
-        return c;
-    }
-    &c[0..n]
+    &c[..(size(c) as usize).max(HEADER).min(c.len())]
 }
 
 // The record in the copy that stands at base in an area.

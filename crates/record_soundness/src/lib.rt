@@ -29,22 +29,12 @@ fn first_six(r: &[u8]) -> bool
     requires { header_size ≤ length r.now }
     ensures { result ≡ first_six r.now }
 {
-    if !version_rule(r) {
-        return false;
-    }
-    if !bank_count_rule(r) {
-        return false;
-    }
-    if !image_count_rule(r) {
-        return false;
-    }
-    if !bank_entry_size_rule(r) {
-        return false;
-    }
-    if !image_entry_size_rule(r) {
-        return false;
-    }
-    size_rule(r)
+    version_rule(r)
+        && bank_count_rule(r)
+        && image_count_rule(r)
+        && bank_entry_size_rule(r)
+        && image_entry_size_rule(r)
+        && size_rule(r)
 }
 
 // R12 to R19.
@@ -52,28 +42,14 @@ fn last_eight(r: &[u8], banks: usize, images: usize) -> bool
     requires { Sized r.now banks images }
     ensures { result ≡ last_eight r.now }
 {
-    if !descriptor_offset_rule(r) {
-        return false;
-    }
-    if !reserved_rule(r, banks, images) {
-        return false;
-    }
-    if !banks_named_rule(r) {
-        return false;
-    }
-    if !accepted_rule(r, banks, images) {
-        return false;
-    }
-    if !type_guids_rule(r, banks, images) {
-        return false;
-    }
-    if !states_rule(r, banks, images) {
-        return false;
-    }
-    if !banks_rule(r, banks, images, active(r) as usize) {
-        return false;
-    }
-    crc_rule(r)
+    descriptor_offset_rule(r)
+        && reserved_rule(r, banks, images)
+        && banks_named_rule(r)
+        && accepted_rule(r, banks, images)
+        && type_guids_rule(r, banks, images)
+        && states_rule(r, banks, images)
+        && banks_rule(r, banks, images, active(r) as usize)
+        && crc_rule(r)
 }
 
 // Whether a record is sound.
@@ -81,10 +57,7 @@ pub fn sound_record(r: &[u8]) -> bool
     requires { header_size ≤ length r.now }
     ensures { result ≡ sound r.now }
 {
-    if !first_six(r) {
-        return false;
-    }
-    last_eight(r, bank_count(r), image_count(r))
+    first_six(r) && last_eight(r, bank_count(r), image_count(r))
 }
 
 // Whether a copy is sound: its record is.

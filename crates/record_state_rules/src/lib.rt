@@ -14,16 +14,11 @@ use record_layout::{ACCEPTED, BANK_LIMIT, INVALID, VALID, accepted_word, state};
 fn state_allowed(banks: usize, b: usize, s: u8) -> bool
     ensures { result ≡ state_allowed banks b s }
 {
-    if s == INVALID {
-        return true;
+    match s {
+        INVALID => true,
+        VALID | ACCEPTED => b < banks,
+        _ => false,
     }
-    if banks <= b {
-        return false;
-    }
-    if s == VALID {
-        return true;
-    }
-    s == ACCEPTED
 }
 
 // R17: each bank has one of its states.
@@ -31,14 +26,7 @@ pub fn states_rule(r: &[u8], banks: usize, images: usize) -> bool
     requires { Sized r.now banks images }
     ensures { result ≡ states_rule r.now }
 {
-    let mut b = 0;
-    while b < BANK_LIMIT {
-        if !state_allowed(banks, b, state(r, b)) {
-            return false;
-        }
-        b += 1;
-    }
-    true
+    (0..BANK_LIMIT).all(|b| state_allowed(banks, b, state(r, b)))
 }
 
 // Whether every image of bank b is accepted.
@@ -46,14 +34,7 @@ pub fn all_accepted(r: &[u8], banks: usize, images: usize, b: usize) -> bool
     requires { Sized r.now banks images × (b < banks) }
     ensures { result ≡ all_accepted r.now b }
 {
-    let mut i = 0;
-    while i < images {
-        if accepted_word(r, banks, i, b) != 1 {
-            return false;
-        }
-        i += 1;
-    }
-    true
+    (0..images).all(|i| accepted_word(r, banks, i, b) == 1)
 }
 
 // Whether the state of bank b fits what is accepted there.
@@ -61,14 +42,11 @@ fn bank_consistent(r: &[u8], banks: usize, images: usize, b: usize) -> bool
     requires { Sized r.now banks images × (b < banks) }
     ensures { result ≡ bank_consistent r.now b }
 {
-    let s = state(r, b);
-    if s == ACCEPTED {
-        return all_accepted(r, banks, images, b);
+    match state(r, b) {
+        ACCEPTED => all_accepted(r, banks, images, b),
+        VALID => !all_accepted(r, banks, images, b),
+        _ => true,
     }
-    if s == VALID {
-        return !all_accepted(r, banks, images, b);
-    }
-    true
 }
 
 // R18: what is accepted in each bank fits its state, and the active bank is not 255. It must be one that the record
@@ -77,12 +55,5 @@ pub fn banks_rule(r: &[u8], banks: usize, images: usize, active: usize) -> bool
     requires { Sized r.now banks images × (active < banks) × (active ≡ le 4 r.now active_at) }
     ensures { result ≡ banks_rule r.now }
 {
-    let mut b = 0;
-    while b < banks {
-        if !bank_consistent(r, banks, images, b) {
-            return false;
-        }
-        b += 1;
-    }
-    state(r, active) != INVALID
+    (0..banks).all(|b| bank_consistent(r, banks, images, b)) && state(r, active) != INVALID
 }
