@@ -31,6 +31,7 @@ fn all_words(r: &[u8], banks: usize, images: usize, from: usize, limit: u32) -> 
 }
 
 // R13: reserved fields are 0.
+#[tactic(auto, using(crate::proofs::Words::reserved_words), unfolding(record_layout::specs::Rules::reserved_rule))]
 pub fn reserved_rule(r: &[u8], banks: usize, images: usize) -> bool
     requires { Sized r.now banks images }
     ensures { result ≡ reserved_rule r.now }
@@ -42,6 +43,7 @@ pub fn reserved_rule(r: &[u8], banks: usize, images: usize) -> bool
 }
 
 // R15: accepted fields are 0 or 1.
+#[tactic(auto, using(crate::proofs::Words::accepted_words), unfolding(record_layout::specs::Rules::accepted_rule))]
 pub fn accepted_rule(r: &[u8], banks: usize, images: usize) -> bool
     requires { Sized r.now banks images }
     ensures { result ≡ accepted_rule r.now }
@@ -66,6 +68,7 @@ pub fn guids_differ(s: &[u8], first: usize, step: usize, n: usize) -> bool
 }
 
 // R16: type GUIDs are all different.
+#[tactic(auto, unfolding(record_layout::specs::Rules::type_guids_rule))]
 pub fn type_guids_rule(r: &[u8], banks: usize, images: usize) -> bool
     requires { Sized r.now banks images }
     ensures { result ≡ type_guids_rule r.now }

@@ -14,6 +14,7 @@ use record_layout::{
 };
 
 // R6: the version is 2.
+#[tactic(auto, unfolding(record_layout::specs::Rules::version_rule))]
 pub fn version_rule(r: &[u8]) -> bool
     requires { header_size ≤ length r.now }
     ensures { result ≡ version_rule r.now }
@@ -22,6 +23,7 @@ pub fn version_rule(r: &[u8]) -> bool
 }
 
 // R7: 2 to 4 banks.
+#[tactic(auto, unfolding(record_layout::specs::Rules::bank_count_rule))]
 pub fn bank_count_rule(r: &[u8]) -> bool
     requires { header_size ≤ length r.now }
     ensures { result ≡ bank_count_rule r.now }
@@ -30,6 +32,7 @@ pub fn bank_count_rule(r: &[u8]) -> bool
 }
 
 // R8: 1 to 32 images.
+#[tactic(auto, unfolding(record_layout::specs::Rules::image_count_rule))]
 pub fn image_count_rule(r: &[u8]) -> bool
     requires { header_size ≤ length r.now }
     ensures { result ≡ image_count_rule r.now }
@@ -38,6 +41,7 @@ pub fn image_count_rule(r: &[u8]) -> bool
 }
 
 // R9: the bank entry size.
+#[tactic(auto, unfolding(record_layout::specs::Rules::bank_entry_size_rule))]
 pub fn bank_entry_size_rule(r: &[u8]) -> bool
     requires { header_size ≤ length r.now }
     ensures { result ≡ bank_entry_size_rule r.now }
@@ -46,6 +50,7 @@ pub fn bank_entry_size_rule(r: &[u8]) -> bool
 }
 
 // R10: the image entry size.
+#[tactic(auto, unfolding(record_layout::specs::Rules::image_entry_size_rule))]
 pub fn image_entry_size_rule(r: &[u8]) -> bool
     requires { header_size ≤ length r.now }
     ensures { result ≡ image_entry_size_rule r.now }
@@ -54,6 +59,7 @@ pub fn image_entry_size_rule(r: &[u8]) -> bool
 }
 
 // R11: the size, and that so many bytes are there.
+#[tactic(auto, unfolding(record_layout::specs::Rules::size_rule))]
 pub fn size_rule(r: &[u8]) -> bool
     requires { header_size ≤ length r.now }
     ensures { result ≡ size_rule r.now }
@@ -63,6 +69,7 @@ pub fn size_rule(r: &[u8]) -> bool
 }
 
 // R12: the descriptor offset.
+#[tactic(auto, unfolding(record_layout::specs::Rules::descriptor_offset_rule))]
 pub fn descriptor_offset_rule(r: &[u8]) -> bool
     requires { header_size ≤ length r.now }
     ensures { result ≡ descriptor_offset_rule r.now }
@@ -71,6 +78,7 @@ pub fn descriptor_offset_rule(r: &[u8]) -> bool
 }
 
 // R14: active and previous name banks.
+#[tactic(auto, unfolding(record_layout::specs::Rules::banks_named_rule))]
 pub fn banks_named_rule(r: &[u8]) -> bool
     requires { header_size ≤ length r.now }
     ensures { result ≡ banks_named_rule r.now }

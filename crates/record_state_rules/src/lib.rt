@@ -11,6 +11,7 @@ ghost use Rattle.record_layout.specs.Sized.{Sized};
 use record_layout::{ACCEPTED, BANK_LIMIT, INVALID, VALID, accepted_word, state};
 
 // Whether s may be the state of bank b.
+#[tactic(auto, unfolding(record_layout::specs::Rules::state_allowed))]
 fn state_allowed(banks: usize, b: usize, s: u8) -> bool
     ensures { result ≡ state_allowed banks b s }
 {
@@ -38,6 +39,7 @@ pub fn all_accepted(r: &[u8], banks: usize, images: usize, b: usize) -> bool
 }
 
 // Whether the state of bank b fits what is accepted there.
+#[tactic(auto, unfolding(record_layout::specs::Rules::bank_consistent))]
 fn bank_consistent(r: &[u8], banks: usize, images: usize, b: usize) -> bool
     requires { Sized r.now banks images × (b < banks) }
     ensures { result ≡ bank_consistent r.now b }
