@@ -17,6 +17,7 @@ use record_layout::{CRC_AT, VERSION_AT, active, bank_count, image_count, record_
 use record_state_rules::{banks_rule, states_rule};
 
 // R19: the CRC agrees.
+#[tactic(auto, unfolding(record_layout::specs::Rules::crc_rule))]
 fn crc_rule(r: &[u8]) -> bool
     requires { header_size ≤ length r.now }
     ensures { result ≡ crc_rule r.now }
@@ -25,6 +26,7 @@ fn crc_rule(r: &[u8]) -> bool
 }
 
 // R6 to R11, on which the record's length rests.
+#[tactic(auto, unfolding(record_layout::specs::Sized::first_six))]
 fn first_six(r: &[u8]) -> bool
     requires { header_size ≤ length r.now }
     ensures { result ≡ first_six r.now }
@@ -38,6 +40,7 @@ fn first_six(r: &[u8]) -> bool
 }
 
 // R12 to R19.
+#[tactic(auto, using(record_layout::proofs::Sound::named_of), unfolding(record_layout::specs::Sized::last_eight))]
 fn last_eight(r: &[u8], banks: usize, images: usize) -> bool
     requires { Sized r.now banks images }
     ensures { result ≡ last_eight r.now }
@@ -53,6 +56,7 @@ fn last_eight(r: &[u8], banks: usize, images: usize) -> bool
 }
 
 // Whether a record is sound.
+#[tactic(auto, using(record_layout::proofs::Sound::sized_of))]
 pub fn sound_record(r: &[u8]) -> bool
     requires { header_size ≤ length r.now }
     ensures { result ≡ sound r.now }
@@ -61,6 +65,7 @@ pub fn sound_record(r: &[u8]) -> bool
 }
 
 // Whether a copy is sound: its record is.
+#[tactic(auto, using(record_layout::proofs::Copies::record_long), unfolding(record_layout::specs::Rules::sound_copy))]
 pub fn sound_copy(c: &[u8]) -> bool
     requires { header_size ≤ length c.now }
     ensures { result ≡ sound_copy c.now }

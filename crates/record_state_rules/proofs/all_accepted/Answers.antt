@@ -1,5 +1,5 @@
 -- `all_accepted` meets its contract. Assumes nothing.
-use mathlib.Core.Path.{refl, ◌∙◌}
+use mathlib.Core.Path.{refl}
 use Rattle.std.proofs.Common.{rules, tests}
 use lib.Dec.{eqb}
 use Rattle.record_layout.proofs.Every.{below_from_all}
