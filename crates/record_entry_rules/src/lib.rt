@@ -6,49 +6,47 @@ ghost use Rattle.std.specs.Prelude.{◌≡◌, not, ◌+◌, ◌*◌, ◌≤◌,
 ghost use Rattle.fields.specs.Guid.{same, guid_every};
 ghost use Rattle.record_layout.specs.Every.{below, distinct};
 ghost use Rattle.record_layout.specs.Rules.{reserved_rule, accepted_rule, type_guids_rule};
-ghost use Rattle.record_layout.specs.Sized.{Sized, bank_words};
+ghost use Rattle.record_layout.specs.Sized.{bank_words};
 
 use fields::{read16, read32, same_guid};
 use record_layout::{
-    ACCEPTED_FROM, HEADER, RESERVED_FROM, RESERVED8_AT, RESERVED16_AT, RESERVED32_AT, bank_word,
-    entry_size,
+    ACCEPTED_FROM, Counted, HEADER, RESERVED_FROM, RESERVED8_AT, RESERVED16_AT, RESERVED32_AT,
+    bank_word, entry_size,
 };
 
 // Whether, in each bank of image i, the word at `from` in the bank's entry is at most `limit`.
-fn bank_words(r: &[u8], banks: usize, images: usize, i: usize, from: usize, limit: u32) -> bool
-    requires { Sized r.now banks images × (i < images) × (from ≤ 20) }
-    ensures { result ≡ bank_words r.now banks from limit i }
+fn bank_words(c: Counted, i: usize, from: usize, limit: u32) -> bool
+    requires { (i < c.images) × (from ≤ 20) }
+    ensures { result ≡ bank_words c.entry.bytes.now c.entry.banks from limit i }
 {
-    (0..banks).all(|b| bank_word(r, banks, i, b, from) <= limit)
+    (0..c.banks).all(|b| bank_word(c.bytes, c.banks, i, b, from) <= limit)
 }
 
 // The same for every image.
-fn all_words(r: &[u8], banks: usize, images: usize, from: usize, limit: u32) -> bool
-    requires { Sized r.now banks images × (from ≤ 20) }
-    ensures { result ≡ below images (bank_words r.now banks from limit) }
+fn all_words(c: Counted, from: usize, limit: u32) -> bool
+    requires { from ≤ 20 }
+    ensures { result ≡ below c.entry.images (bank_words c.entry.bytes.now c.entry.banks from limit) }
 {
-    (0..images).all(|i| bank_words(r, banks, images, i, from, limit))
+    (0..c.images).all(|i| bank_words(c, i, from, limit))
 }
 
 // R13: reserved fields are 0.
 #[tactic(auto, using(crate::proofs::Words::reserved_words), unfolding(record_layout::specs::Rules::reserved_rule))]
-pub fn reserved_rule(r: &[u8], banks: usize, images: usize) -> bool
-    requires { Sized r.now banks images }
-    ensures { result ≡ reserved_rule r.now }
+pub fn reserved_rule(c: Counted) -> bool
+    ensures { result ≡ reserved_rule c.entry.bytes.now }
 {
-    read16(r, RESERVED16_AT) == 0
-        && read32(r, RESERVED32_AT) == 0
-        && r[RESERVED8_AT] == 0
-        && all_words(r, banks, images, RESERVED_FROM, 0)
+    read16(c.bytes, RESERVED16_AT) == 0
+        && read32(c.bytes, RESERVED32_AT) == 0
+        && c.bytes[RESERVED8_AT] == 0
+        && all_words(c, RESERVED_FROM, 0)
 }
 
 // R15: accepted fields are 0 or 1.
 #[tactic(auto, using(crate::proofs::Words::accepted_words), unfolding(record_layout::specs::Rules::accepted_rule))]
-pub fn accepted_rule(r: &[u8], banks: usize, images: usize) -> bool
-    requires { Sized r.now banks images }
-    ensures { result ≡ accepted_rule r.now }
+pub fn accepted_rule(c: Counted) -> bool
+    ensures { result ≡ accepted_rule c.entry.bytes.now }
 {
-    all_words(r, banks, images, ACCEPTED_FROM, 1)
+    all_words(c, ACCEPTED_FROM, 1)
 }
 
 // Whether the GUID at `at`, number i of those that stand `step` bytes apart from `first` on, differs from those before.
@@ -69,9 +67,8 @@ pub fn guids_differ(s: &[u8], first: usize, step: usize, n: usize) -> bool
 
 // R16: type GUIDs are all different.
 #[tactic(auto, unfolding(record_layout::specs::Rules::type_guids_rule))]
-pub fn type_guids_rule(r: &[u8], banks: usize, images: usize) -> bool
-    requires { Sized r.now banks images }
-    ensures { result ≡ type_guids_rule r.now }
+pub fn type_guids_rule(c: Counted) -> bool
+    ensures { result ≡ type_guids_rule c.entry.bytes.now }
 {
-    guids_differ(r, HEADER, entry_size(banks), images)
+    guids_differ(c.bytes, HEADER, entry_size(c.banks), c.images)
 }

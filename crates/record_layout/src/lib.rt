@@ -11,6 +11,9 @@ ghost use Rattle.record_layout.specs.Layout.{version, size, active, previous, st
 ghost use Rattle.record_layout.specs.Layout.{entry_size, entry_at, bank_entry_at, accepted};
 ghost use Rattle.record_layout.specs.Sized.{Sized};
 
+mod counted;
+
+pub use counted::Counted;
 use fields::{read16, read32};
 
 // The lengths of an area, of a copy and of a record's header.

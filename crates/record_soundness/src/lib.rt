@@ -4,7 +4,7 @@
 ghost use Rattle.std.specs.Prelude.{◌≡◌, ◌≤◌, length};
 ghost use Rattle.record_layout.specs.Layout.{header_size};
 ghost use Rattle.record_layout.specs.Rules.{crc_rule, sound, sound_copy};
-ghost use Rattle.record_layout.specs.Sized.{Sized, first_six, last_eight};
+ghost use Rattle.record_layout.specs.Sized.{first_six, last_eight};
 
 use fields::read32;
 use record_crc::crc32;
@@ -13,7 +13,7 @@ use record_header_rules::{
     bank_count_rule, bank_entry_size_rule, banks_named_rule, descriptor_offset_rule,
     image_count_rule, image_entry_size_rule, size_rule, version_rule,
 };
-use record_layout::{CRC_AT, VERSION_AT, active, bank_count, image_count, record_in};
+use record_layout::{CRC_AT, Counted, VERSION_AT, active, bank_count, image_count, record_in};
 use record_state_rules::{banks_rule, states_rule};
 
 // R19: the CRC agrees.
@@ -41,18 +41,17 @@ fn first_six(r: &[u8]) -> bool
 
 // R12 to R19.
 #[tactic(auto, using(record_layout::proofs::Sound::named_of), unfolding(record_layout::specs::Sized::last_eight))]
-fn last_eight(r: &[u8], banks: usize, images: usize) -> bool
-    requires { Sized r.now banks images }
-    ensures { result ≡ last_eight r.now }
+fn last_eight(c: Counted) -> bool
+    ensures { result ≡ last_eight c.entry.bytes.now }
 {
-    descriptor_offset_rule(r)
-        && reserved_rule(r, banks, images)
-        && banks_named_rule(r)
-        && accepted_rule(r, banks, images)
-        && type_guids_rule(r, banks, images)
-        && states_rule(r, banks, images)
-        && banks_rule(r, banks, images, active(r) as usize)
-        && crc_rule(r)
+    descriptor_offset_rule(c.bytes)
+        && reserved_rule(c)
+        && banks_named_rule(c.bytes)
+        && accepted_rule(c)
+        && type_guids_rule(c)
+        && states_rule(c)
+        && banks_rule(c, active(c.bytes) as usize)
+        && crc_rule(c.bytes)
 }
 
 // Whether a record is sound.
@@ -61,7 +60,12 @@ pub fn sound_record(r: &[u8]) -> bool
     requires { header_size ≤ length r.now }
     ensures { result ≡ sound r.now }
 {
-    first_six(r) && last_eight(r, bank_count(r), image_count(r))
+    first_six(r)
+        && last_eight(Counted {
+            bytes: r,
+            banks: bank_count(r),
+            images: image_count(r),
+        })
 }
 
 // Whether a copy is sound: its record is.

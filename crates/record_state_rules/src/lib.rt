@@ -8,7 +8,7 @@ ghost use Rattle.record_layout.specs.Layout.{active_at};
 ghost use Rattle.record_layout.specs.Rules.{state_allowed, states_rule, all_accepted, bank_consistent, banks_rule};
 ghost use Rattle.record_layout.specs.Sized.{Sized};
 
-use record_layout::{ACCEPTED, BANK_LIMIT, INVALID, VALID, accepted_word, state};
+use record_layout::{ACCEPTED, BANK_LIMIT, Counted, INVALID, VALID, accepted_word, state};
 
 // Whether s may be the state of bank b.
 #[tactic(auto, unfolding(record_layout::specs::Rules::state_allowed))]
@@ -23,11 +23,10 @@ fn state_allowed(banks: usize, b: usize, s: u8) -> bool
 }
 
 // R17: each bank has one of its states.
-pub fn states_rule(r: &[u8], banks: usize, images: usize) -> bool
-    requires { Sized r.now banks images }
-    ensures { result ≡ states_rule r.now }
+pub fn states_rule(c: Counted) -> bool
+    ensures { result ≡ states_rule c.entry.bytes.now }
 {
-    (0..BANK_LIMIT).all(|b| state_allowed(banks, b, state(r, b)))
+    (0..BANK_LIMIT).all(|b| state_allowed(c.banks, b, state(c.bytes, b)))
 }
 
 // Whether every image of bank b is accepted.
@@ -40,22 +39,22 @@ pub fn all_accepted(r: &[u8], banks: usize, images: usize, b: usize) -> bool
 
 // Whether the state of bank b fits what is accepted there.
 #[tactic(auto, unfolding(record_layout::specs::Rules::bank_consistent))]
-fn bank_consistent(r: &[u8], banks: usize, images: usize, b: usize) -> bool
-    requires { Sized r.now banks images × (b < banks) }
-    ensures { result ≡ bank_consistent r.now b }
+fn bank_consistent(c: Counted, b: usize) -> bool
+    requires { b < c.banks }
+    ensures { result ≡ bank_consistent c.entry.bytes.now b }
 {
-    match state(r, b) {
-        ACCEPTED => all_accepted(r, banks, images, b),
-        VALID => !all_accepted(r, banks, images, b),
+    match state(c.bytes, b) {
+        ACCEPTED => all_accepted(c.bytes, c.banks, c.images, b),
+        VALID => !all_accepted(c.bytes, c.banks, c.images, b),
         _ => true,
     }
 }
 
 // R18: what is accepted in each bank fits its state, and the active bank is not 255. It must be one that the record
 // has.
-pub fn banks_rule(r: &[u8], banks: usize, images: usize, active: usize) -> bool
-    requires { Sized r.now banks images × (active < banks) × (active ≡ le 4 r.now active_at) }
-    ensures { result ≡ banks_rule r.now }
+pub fn banks_rule(c: Counted, active: usize) -> bool
+    requires { (active < c.banks) × (active ≡ le 4 c.bytes.now active_at) }
+    ensures { result ≡ banks_rule c.entry.bytes.now }
 {
-    (0..banks).all(|b| bank_consistent(r, banks, images, b)) && state(r, active) != INVALID
+    (0..c.banks).all(|b| bank_consistent(c, b)) && state(c.bytes, active) != INVALID
 }

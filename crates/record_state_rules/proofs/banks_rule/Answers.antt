@@ -8,17 +8,17 @@ use Rattle.record_layout.specs.Rules.{bank_consistent, banks_rule}
 use Rattle.record_state_rules.proofs.banks_rule.Goals as goal
 use Rattle.record_state_rules.proofs.banks_rule.Goals.{After-all}
 
-each_bank : (c : After-all) → c.all.result ≡ below (bank_count c.args.r.now) (bank_consistent c.args.r.now)
+each_bank : (c : After-all) → c.all.result ≡ below (bank_count c.args.c.bytes.now) (bank_consistent c.args.c.bytes.now)
 each_bank c =
     let a = c.args in
-    rw c.requires.0.banks_is
-    (below_from_all (bank_consistent a.r.now) a.banks _ _ c.all.result refl c.all.ensures.ran (λ x b q k. search rules))
+    rw c.args.c.sized.banks_is
+    (below_from_all (bank_consistent a.c.bytes.now) a.c.banks _ _ c.all.result refl c.all.ensures.ran (λ x b q k. search rules))
 
 pub returns-then-all : goal.returns-then-all
 unfolding banks_rule
 returns-then-all c =
     let tested = sym (each_bank (goal.at.returns-then-all c).After-all) ∙ c.if-all.true in
-    rw (tested, ← c.requires.2, c.state.ensures)
+    rw (tested, ← c.requires.1, c.state.ensures)
 
 pub returns-else-all : goal.returns-else-all
 unfolding banks_rule

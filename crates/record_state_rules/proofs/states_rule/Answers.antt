@@ -9,6 +9,6 @@ use Rattle.record_state_rules.proofs.states_rule.Goals as goal
 pub returns : goal.returns
 unfolding states_rule
 returns c =
-    let r = c.args.r.now in
+    let r = c.args.c.bytes.now in
     below_from_all (λ b. state_allowed (bank_count r) b (state r b)) bank_limit _ _ c.all.result refl c.all.ensures.ran
-    (λ x b q k. search (rules, c.requires.banks_is))
+    (λ x b q k. search (rules, c.args.c.sized.banks_is))
