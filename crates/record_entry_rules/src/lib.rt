@@ -1,5 +1,5 @@
 // The rules of soundness on the words and type GUIDs of a record's image entries (R13, R15, R16). The counts and the
-// length have been tested (`Sized`) before anything here reads an entry.
+// length have been tested (`Counted`) before anything here reads an entry.
 #![tactic(auto)]
 
 ghost use Rattle.std.specs.Prelude.{◌≡◌, not, ◌+◌, ◌*◌, ◌≤◌, ◌<◌, length};
@@ -49,11 +49,12 @@ pub fn accepted_rule(c: Counted) -> bool
     all_words(c, ACCEPTED_FROM, 1)
 }
 
-// Whether the GUID at `at`, number i of those that stand `step` bytes apart from `first` on, differs from those before.
-fn guid_differs(s: &[u8], first: usize, step: usize, i: usize, at: usize) -> bool
-    requires { (at ≡ first + i * step) × (at + 16 ≤ length s.now) }
+// Whether GUID i of those that stand `step` bytes apart from `first` on differs from those before.
+fn guid_differs(s: &[u8], first: usize, step: usize, i: usize) -> bool
+    requires { first + i * step + 16 ≤ length s.now }
     ensures { result ≡ below i (λ j. not (same (guid_every step first s.now j) (guid_every step first s.now i))) }
 {
+    let at = first + i * step;
     (0..i).all(|j| !same_guid(s, first + j * step, s, at))
 }
 
@@ -62,7 +63,7 @@ pub fn guids_differ(s: &[u8], first: usize, step: usize, n: usize) -> bool
     requires { (16 ≤ step) × (first + n * step ≤ length s.now) }
     ensures { result ≡ distinct n (guid_every step first s.now) }
 {
-    (0..n).all(|i| guid_differs(s, first, step, i, first + i * step))
+    (0..n).all(|i| guid_differs(s, first, step, i))
 }
 
 // R16: type GUIDs are all different.

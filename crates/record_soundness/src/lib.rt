@@ -13,7 +13,7 @@ use record_header_rules::{
     bank_count_rule, bank_entry_size_rule, banks_named_rule, descriptor_offset_rule,
     image_count_rule, image_entry_size_rule, size_rule, version_rule,
 };
-use record_layout::{CRC_AT, Counted, VERSION_AT, active, bank_count, image_count, record_in};
+use record_layout::{CRC_AT, Counted, VERSION_AT, bank_count, image_count, record_in};
 use record_state_rules::{banks_rule, states_rule};
 
 // R19: the CRC agrees.
@@ -50,7 +50,7 @@ fn last_eight(c: Counted) -> bool
         && accepted_rule(c)
         && type_guids_rule(c)
         && states_rule(c)
-        && banks_rule(c, active(c.bytes) as usize)
+        && banks_rule(c)
         && crc_rule(c.bytes)
 }
 

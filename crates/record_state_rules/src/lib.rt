@@ -1,14 +1,13 @@
 // The rules of soundness on a record's bank states and on what is accepted in each bank (R17, R18). The counts and the
-// length have been tested (`Sized`) before anything here reads an entry.
+// length have been tested (`Counted`) before anything here reads an entry.
 #![tactic(auto)]
 
 ghost use Rattle.std.specs.Prelude.{◌≡◌, ◌<◌};
-ghost use Rattle.fields.specs.Number.{le};
-ghost use Rattle.record_layout.specs.Layout.{active_at};
+ghost use Rattle.record_layout.specs.Layout.{active};
 ghost use Rattle.record_layout.specs.Rules.{state_allowed, states_rule, all_accepted, bank_consistent, banks_rule};
 ghost use Rattle.record_layout.specs.Sized.{Sized};
 
-use record_layout::{ACCEPTED, BANK_LIMIT, Counted, INVALID, VALID, accepted_word, state};
+use record_layout::{ACCEPTED, BANK_LIMIT, Counted, INVALID, VALID, accepted_word, active, state};
 
 // Whether s may be the state of bank b.
 #[tactic(auto, unfolding(record_layout::specs::Rules::state_allowed))]
@@ -50,11 +49,10 @@ fn bank_consistent(c: Counted, b: usize) -> bool
     }
 }
 
-// R18: what is accepted in each bank fits its state, and the active bank is not 255. It must be one that the record
-// has.
-pub fn banks_rule(c: Counted, active: usize) -> bool
-    requires { (active < c.banks) × (active ≡ le 4 c.bytes.now active_at) }
+// R18: what is accepted in each bank fits its state, and the active bank, one that the record has (R14), is not 255.
+pub fn banks_rule(c: Counted) -> bool
+    requires { active c.bytes.now < c.banks }
     ensures { result ≡ banks_rule c.entry.bytes.now }
 {
-    (0..c.banks).all(|b| bank_consistent(c, b)) && state(c.bytes, active) != INVALID
+    (0..c.banks).all(|b| bank_consistent(c, b)) && state(c.bytes, active(c.bytes) as usize) != INVALID
 }

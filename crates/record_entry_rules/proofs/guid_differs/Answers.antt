@@ -10,4 +10,4 @@ pub returns : goal.returns
 returns c =
     let a = c.args in
     let at = guid_every a.step a.first a.s.now in
-    below_from_all (λ j. not (same (at j) (at a.i))) a.i _ _ c.all.result refl c.all.ensures.ran (λ x b q k. search (rules, c.requires.0))
+    below_from_all (λ j. not (same (at j) (at a.i))) a.i _ _ c.all.result refl c.all.ensures.ran (λ x b q k. search rules)

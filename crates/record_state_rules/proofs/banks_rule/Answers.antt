@@ -18,7 +18,7 @@ pub returns-then-all : goal.returns-then-all
 unfolding banks_rule
 returns-then-all c =
     let tested = sym (each_bank (goal.at.returns-then-all c).After-all) ∙ c.if-all.true in
-    rw (tested, ← c.requires.1, c.state.ensures)
+    rw (tested, ← c.active.ensures, c.state.ensures)
 
 pub returns-else-all : goal.returns-else-all
 unfolding banks_rule
