@@ -13,49 +13,38 @@
 mod parts;
 mod steps;
 
-use parts::text;
 use reading::read_full;
 use std::io;
-use steps::{repaired, started, step};
-use update_session::Session;
+use steps::{Call, repaired, started, step};
 
 // No list has more stores.
 const ALL: usize = 2100;
 
-// Begin, Commit of the image with that type GUID, and End, of which only so many stores are done.
+// Begin, Commit of the image with that type GUID, and End, of which only so many stores are done, from the session that
+// start-up in that bank gives.
 fn update(
     rt: &impl Print,
     a: &mut [u8],
-    session: Session,
+    booted: u32,
     guid: [u8; 16],
     most: usize,
 ) -> io::Result<()> {
-    let begun = step(rt, a, b'B', session, guid, ALL)?;
-    let committed = step(rt, a, b'C', begun, guid, ALL)?;
-    step(rt, a, b'E', committed, guid, most)?;
+    let session = started(rt, a, booted)?;
+    let begun = step(rt, a, Call::Begin, session, ALL)?;
+    let committed = step(rt, a, Call::Commit(guid), begun, ALL)?;
+    step(rt, a, Call::End, committed, most)?;
     Ok(())
 }
 
 // A session is lost with the power: behind each cut or restart, start-up tells it anew.
 fn updates(rt: &impl Print, a: &mut [u8], guid: [u8; 16]) -> io::Result<()> {
-    text(
-        rt,
-        b"\nAn update. Power fails after 5 stores of its last call.\n",
-    )?;
-    let first = started(rt, a, 0)?;
-    update(rt, a, first, guid, 5)?;
-    text(
-        rt,
-        b"\nPower is back. Copy 0 is half written: the old record is read, from copy 1, and repaired.\n",
-    )?;
+    println!(rt; "\nAn update. Power fails after 5 stores of its last call.")?;
+    update(rt, a, 0, guid, 5)?;
+    println!(rt; "\nPower is back. Copy 0 is half written: the old record is read, from copy 1, and repaired.")?;
     started(rt, a, 0)?;
     repaired(rt, a)?;
-    text(
-        rt,
-        b"\nThe same update again, with all of its stores. The next start is in the new bank.\n",
-    )?;
-    let again = started(rt, a, 0)?;
-    update(rt, a, again, guid, ALL)?;
+    println!(rt; "\nThe same update again, with all of its stores. The next start is in the new bank.")?;
+    update(rt, a, 0, guid, ALL)?;
     started(rt, a, 1)?;
     Ok(())
 }

@@ -8,15 +8,12 @@ ghost use Rattle.fields.specs.Number.{bytes, put, words_bytes};
 ghost use Rattle.fields.specs.Guid.{guid};
 ghost use Rattle.fields.specs.Part.{part};
 
-use fields::read64;
-
 // Puts the 16-bit number v at `at`.
 pub fn write16(s: &mut [u8], at: usize, v: u16)
     requires { at + 2 ≤ length s.old }
     ensures { s.new ≡ put s.old at (bytes 2 v) }
 {
-    s[at] = (v % 256) as u8;
-    s[at + 1] = (v / 256) as u8;
+    s[at..at + 2].copy_from_slice(&v.to_le_bytes());
 }
 
 // Puts the 32-bit number v at `at`.
@@ -24,8 +21,7 @@ pub fn write32(s: &mut [u8], at: usize, v: u32)
     requires { at + 4 ≤ length s.old }
     ensures { s.new ≡ put s.old at (bytes 4 v) }
 {
-    write16(s, at, (v % 65536) as u16);
-    write16(s, at + 2, (v / 65536) as u16);
+    s[at..at + 4].copy_from_slice(&v.to_le_bytes());
 }
 
 // Puts the 64-bit number v at `at`.
@@ -33,8 +29,7 @@ pub fn write64(s: &mut [u8], at: usize, v: u64)
     requires { at + 8 ≤ length s.old }
     ensures { s.new ≡ put s.old at (bytes 8 v) }
 {
-    write32(s, at, (v % 4294967296) as u32);
-    write32(s, at + 4, (v / 4294967296) as u32);
+    s[at..at + 8].copy_from_slice(&v.to_le_bytes());
 }
 
 // Puts the GUID that stands at `from` in t at `at`.
@@ -42,8 +37,7 @@ pub fn write_guid(s: &mut [u8], at: usize, t: &[u8], from: usize)
     requires { (at + 16 ≤ length s.old) × (from + 16 ≤ length t.now) }
     ensures { s.new ≡ put s.old at (guid t.now from) }
 {
-    write64(s, at, read64(t, from));
-    write64(s, at + 8, read64(t, from + 8));
+    s[at..at + 16].copy_from_slice(&t[from..from + 16]);
 }
 
 // Puts 32-bit numbers at `at`, one behind another.
@@ -51,10 +45,8 @@ pub fn write_words(s: &mut [u8], at: usize, words: &[u32])
     requires { at + 4 * length words.now ≤ length s.old }
     ensures { s.new ≡ put s.old at (words_bytes words.now) }
 {
-    let mut i = 0;
-    while i < words.len() {
+    for i in 0..words.len() {
         write32(s, at + 4 * i, words[i]);
-        i += 1;
     }
 }
 
@@ -63,9 +55,5 @@ pub fn write_part(s: &mut [u8], at: usize, t: &[u8], from: usize, n: usize)
     requires { (at + n ≤ length s.old) × (from + n ≤ length t.now) }
     ensures { s.new ≡ put s.old at (part t.now from (from + n)) }
 {
-    let mut i = 0;
-    while i < n {
-        s[at + i] = t[from + i];
-        i += 1;
-    }
+    s[at..at + n].copy_from_slice(&t[from..from + n]);
 }

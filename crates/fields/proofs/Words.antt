@@ -1,5 +1,4 @@
--- Laws of numbers written one behind another: a GUID as two of 64 bits, and lists of 32 bits, which are read back.
--- Assumes nothing.
+-- Laws of 32-bit numbers written one behind another, and read back. Assumes nothing.
 use mathlib.Core.Path.{◌≡◌, refl, sym, ap, ◌∙◌}
 use mathlib.Core.List.{List, [], ◌∷◌, ◌++◌, append_assoc, append-nil}
 use Prim.Native.Nat.{ℕ, suc, ◌+◌, ◌*◌, ◌^◌, ◌≤◌, ◌<◌}
@@ -7,40 +6,11 @@ use native.Mathlib.Nat.{add-zero, zero-add, add_assoc}
 use native.Mathlib.Numerals.{add-one}
 use native.Mathlib.Omega.{arith}
 use lib.ListN.{length, take, drop, get_or, length-append, take-append-drop, get_or-append}
-use lib.Seq.{take_at, take-suc, take_all, length-take-le, get_or-drop, drop-drop, drop_at}
+use lib.Seq.{take-suc, take_all, length-take-le, get_or-drop, drop-drop, drop_at}
 use Rattle.fields.specs.Number.{Bytes, le, bytes, put, words_bytes}
-use Rattle.fields.specs.Guid.{guid}
 use Rattle.fields.proofs.Number.{le_same, le_of_bytes, length_bytes}
 use Rattle.fields.proofs.Bytes.{append_bytes, bytes_small, drop_number}
 use Rattle.fields.proofs.Put.{put_more}
-
--- a GUID's sixteen bytes are those of two numbers
-pub guid_halves : (t : List ℕ) (o : ℕ) → Bytes t → o + 16 ≤ length t → bytes 8 (le 8 t o) ++ bytes 8 (le 8 t (o + 8)) ≡ guid t o
-unfolding guid
-guid_halves t o b h =
-    let low = bytes 8 (le 8 t o) in
-    let high = bytes 8 (le 8 t (o + 8)) in
-    let l : length (low ++ high) ≡ 16 = omega (arith, length-append low high, length_bytes 8 (le 8 t o), length_bytes 8 (le 8 t (o + 8))) in
-    sym
-    (ap (λ (k : List ℕ). take 16 k)
-    (drop_number 8 t o b (omega arith)
-    ∙ ap (λ (k : List ℕ). low ++ k) (drop_number 8 t (o + 8) b (omega arith))
-    ∙ sym (append_assoc low high (drop (o + 8 + 8) t)))
-    ∙ take_at (low ++ high) (drop (o + 8 + 8) t) 16 l)
-
--- two stores that put one, told by what each of them left
-pub put_guid : (s t : List ℕ) (i o : ℕ) {one two : List ℕ} → Bytes t → i + 16 ≤ length s → o + 16 ≤ length t
-    → one ≡ put s i (bytes 8 (le 8 t o)) → two ≡ put one (i + 8) (bytes 8 (le 8 t (o + 8))) → two ≡ put s i (guid t o)
-put_guid s t i o {one} {two} b h k p q =
-    let low = bytes 8 (le 8 t o) in
-    let high = bytes 8 (le 8 t (o + 8)) in
-    let l : length low ≡ 8 = length_bytes 8 (le 8 t o) in
-    let m : length high ≡ 8 = length_bytes 8 (le 8 t (o + 8)) in
-    q
-    ∙ ap (λ (x : List ℕ). put x (i + 8) high) p
-    ∙ ap (λ (n : ℕ). put (put s i low) (i + n) high) (sym l)
-    ∙ put_more s i low high (omega arith)
-    ∙ ap (λ (x : List ℕ). put s i x) (guid_halves t o b k)
 
 -- nothing put
 pub put_none : (s : List ℕ) (i : ℕ) → s ≡ put s i []

@@ -13,7 +13,8 @@ use Rattle.fields.proofs.Tests.{no_true}
 use Rattle.record_layout.specs.Layout.{area_size, copy0, copy1}
 use Rattle.record_layout.specs.Rules.{sound_copy}
 use Rattle.record_copies.specs.Copies.{source_of, record_read}
-use Rattle.record_copies.specs.declared.Source.TheVariants.{Copy0, Copy1, Neither}
+use Rattle.record_copies.specs.declared.Source.TheVariants.{Copy0, Copy1}
+use Rattle.std.specs.Prelude.{Some, None}
 use Rattle.record_stores.specs.Stores.{Store, store_numbers, with_list}
 use Rattle.record_store_lists.specs.ChangeStores.{repair_stores}
 use Rattle.refusal_order.specs.Decide.{Decision, passed, refusal, decide, Reply, gives, refuses}
@@ -34,25 +35,25 @@ use Rattle.proof_power_cuts.specs.PowerCuts.{Reads, NoCall, Quiet, AllDone, Fini
 pub record Good (a : List ℕ) : Type 0 where
   pub long : length a ≡ area_size
   pub bytes : Bytes a
-  pub one_sound : source_of a ≢ Neither
+  pub one_sound : source_of a ≢ None
 
 -- ---- 21: a copy is sound exactly where one is read
-some_sound : (x y : Bool) → cond x Copy0 (cond y Copy1 Neither) ≢ Neither → not (x || y) ≡ false
+some_sound : (x y : Bool) → cond x (Some Copy0) (cond y (Some Copy1) None) ≢ None → not (x || y) ≡ false
 some_sound true y h = refl
 some_sound false true h = refl
 some_sound false false h = absurd (h refl)
 
-one_read : (x y : Bool) → not (x || y) ≡ false → cond x Copy0 (cond y Copy1 Neither) ≢ Neither
+one_read : (x y : Bool) → not (x || y) ≡ false → cond x (Some Copy0) (cond y (Some Copy1) None) ≢ None
 one_read true y e z = let z : ◌≡◌ {A = ℕ} 0 1 = cc in omega arith
 one_read false true e z = let z : ◌≡◌ {A = ℕ} 0 1 = cc in omega arith
 one_read false false e z = no_true (sym e)
 
-pub is_sound : (a : List ℕ) → source_of a ≢ Neither → (sound_test a).0 ≡ false
+pub is_sound : (a : List ℕ) → source_of a ≢ None → (sound_test a).0 ≡ false
 unfolding source_of
 is_sound a h = some_sound (sound_copy (copy0 a)) (sound_copy (copy1 a)) h
 
 -- ---- start-up
-from_read : (a : List ℕ) (booted : ℕ) → length a ≡ area_size → source_of a ≢ Neither → start_up_of a booted ≡ started_from (record_read a) booted
+from_read : (a : List ℕ) (booted : ℕ) → length a ≡ area_size → source_of a ≢ None → start_up_of a booted ≡ started_from (record_read a) booted
 unfolding start_up_of start_up_tests read_tests started_from decide
 from_read a booted l h = rw (eq-eqb (length a) area_size l, is_sound a h)
 
@@ -68,7 +69,7 @@ reads a r l i =
 pub record Mends (a s : List ℕ) (count : ℕ) : Type 0 where
   pub long : length a ≡ area_size
   pub room : store_numbers ≤ length s
-  pub one_sound : source_of a ≢ Neither
+  pub one_sound : source_of a ≢ None
   pub counts : count ≡ length (repair_stores a)
   pub lists : (repaired a s).1 ≡ with_list s (repair_stores a)
 

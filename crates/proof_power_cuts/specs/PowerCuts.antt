@@ -3,13 +3,12 @@
 -- slice at exit, and of one history (crates/proof_history). w is a world, a the bytes of an area, s the numbers of a
 -- store slice, q a session, r the bytes of a record, ss a list of stores, n how many of them are done before the cut,
 -- es a list of start-ups and repairs. Assumes nothing.
-use Rattle.std.specs.Prelude.{ℕ, ◌*◌, ◌/◌, ◌≤◌, ◌≡◌, ◌≢◌, ◌⊎◌, true, List, [], ◌∷◌, ◌++◌, length}
+use Rattle.std.specs.Prelude.{ℕ, ◌*◌, ◌/◌, ◌≤◌, ◌≡◌, ◌≢◌, ◌⊎◌, true, List, [], ◌∷◌, ◌++◌, length, None}
 use Rattle.std.proofs.Math.Option.{none, some}
 use Rattle.fields.specs.Number.{Bytes}
 use Rattle.record_layout.specs.Layout.{area_size, copy0, copy1}
 use Rattle.record_layout.specs.Rules.{sound}
 use Rattle.record_copies.specs.Copies.{source_of, record_read, sound_and_equal}
-use Rattle.record_copies.specs.declared.Source.TheVariants.{Neither}
 use Rattle.record_stores.specs.Stores.{Store, store_numbers, with_list}
 use Rattle.refusal_order.specs.Decide.{Reply, gives, refuses}
 use Rattle.update_changes.specs.Changed.{Call, new_record}
@@ -41,7 +40,7 @@ pub record Listed (s : List ℕ) (count : ℕ) (out : List ℕ) : Type 0 where
 
 -- ---- what start-up reads: the record read, by which it answers for any booted bank (P3)
 pub record Reads (a r : List ℕ) : Type 0 where
-  pub one_sound : source_of a ≢ Neither
+  pub one_sound : source_of a ≢ None
   pub is : record_read a ≡ r
   pub answers : (booted : ℕ) → start_up_of a booted ≡ started_from r booted
 
@@ -145,7 +144,7 @@ pub record Survives (a old new : List ℕ) (ss : List Store) (n : ℕ) (w : Worl
 -- ---- a repair of a with the stores ss, all of them done (R27)
 pub record Repairs (a : List ℕ) (ss : List Store) : Type 0 where
   pub is_area : length a ≡ area_size
-  pub has_sound : source_of a ≢ Neither
+  pub has_sound : source_of a ≢ None
   pub none : sound_and_equal a ≡ true → ss ≡ []
   pub after_all : BothHold (after_stores a ss) (record_read a)
   pub area : after_stores a ss ≡ over (record_read a) (copy0 a) ++ over (record_read a) (copy1 a)
@@ -168,6 +167,6 @@ pub record PowerCuts : Type 0 where
   pub change_listed : (k : Call) (q : Session) (a s : List ℕ) → Bytes a → Passed (answered k q a s)
       → Listed s (answered k q a s).0.2 (answered k q a s).1
   pub anywhere : (w : World) (es : List Event) → length w.area ≡ area_size → Bytes w.area
-      → source_of w.area ≢ Neither → Quiet es → Lasts w es
+      → source_of w.area ≢ None → Quiet es → Lasts w es
   pub repair : (a s : List ℕ) (count : ℕ) → Bytes a → (repaired a s).0 ≡ gives count → Repairs a (pairs count (repaired a s).1)
   pub repair_listed : (a s : List ℕ) (count : ℕ) → (repaired a s).0 ≡ gives count → Listed s count (repaired a s).1

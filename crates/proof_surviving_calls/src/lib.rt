@@ -6,13 +6,11 @@
 
 ghost use Rattle.update_changes.specs.Changed.{begin, commit, end, cancel, accept, select_previous};
 ghost use Rattle.update_session.specs.Outcome.{outcome_of};
-ghost use Rattle.update_repair.specs.Repair as repairs;
-ghost use Rattle.update_start_up.specs.StartUp as starts;
+ghost use Rattle.refusal_order.specs.Decide.{reply_of};
 ghost use Rattle.proof_surviving_calls.specs.Tied.{Tied, TiedRepair, TiedStartUp};
 
-use update_repair::Repaired;
+use refusals::Refusal;
 use update_session::{Answer, Session};
-use update_start_up::Started;
 
 // Begin.
 pub fn begin(session: Session, area: &[u8], out: &mut [u32]) -> Answer
@@ -63,15 +61,15 @@ pub fn select_previous(session: Session, area: &[u8], out: &mut [u32]) -> Answer
 }
 
 // Repair.
-pub fn repair(area: &[u8], out: &mut [u32]) -> Repaired
-    ensures { TiedRepair area.now out.old (repairs.repair_reply result) out.new }
+pub fn repair(area: &[u8], out: &mut [u32]) -> Result<usize, Refusal>
+    ensures { TiedRepair area.now out.old (reply_of result) out.new }
 {
     update_repair::repair(area, out)
 }
 
 // Start-up.
-pub fn start_up(area: &[u8], booted: u32) -> Started
-    ensures { TiedStartUp area.now booted (starts.start_reply result) }
+pub fn start_up(area: &[u8], booted: u32) -> Result<Session, Refusal>
+    ensures { TiedStartUp area.now booted (reply_of result) }
 {
     update_start_up::start_up(area, booted)
 }

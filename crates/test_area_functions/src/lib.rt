@@ -9,45 +9,22 @@ use test_machine::{pop, push};
 // Where copy 1 starts.
 const COPY_1: usize = 8192;
 
-fn number(out: &[u32], i: usize) -> u32 {
-    if i < out.len() { out[i] } else { 0 }
-}
-
-// 1 where a store's offset is no multiple of 4 or lies in neither record range.
-fn astray(at: usize, size: usize) -> u64 {
-    if at % 4 != 0 {
-        return 1;
-    }
-    if at < size {
-        return 0;
-    }
-    if at < COPY_1 {
-        return 1;
-    }
-    if at - COPY_1 < size { 0 } else { 1 }
-}
-
-// Does the store at the place i of a list where it fits, and answers whether its offset is astray.
-fn done(m: &mut [u8], out: &[u32], i: usize, size: usize) -> u64 {
-    if out.len() / 2 <= i {
-        return 1;
-    }
-    let at = number(out, 2 * i) as usize;
-    store(m, at, 4, number(out, 2 * i + 1) as u64);
-    astray(at, size)
+// Whether a store's offset is no multiple of 4 or lies in neither record range.
+fn astray(at: usize, size: usize) -> bool {
+    at % 4 != 0 || size <= at && (at < COPY_1 || size <= at - COPY_1)
 }
 
 // Does the first so many stores of a list, and answers how many of their offsets are astray; 1 where the list has
 // fewer.
 pub fn apply(m: &mut [u8], out: &[u32], pairs: usize, size: usize) -> u64 {
-    let mut count: u64 = 0;
     if out.len() / 2 < pairs {
         return 1;
     }
-    let mut i = 0;
-    while i < pairs {
-        count = count.wrapping_add(done(m, out, i, size));
-        i += 1;
+    let mut count: u64 = 0;
+    for i in 0..pairs {
+        let at = out[2 * i] as usize;
+        store(m, at, 4, u64::from(out[2 * i + 1]));
+        count = count.wrapping_add(u64::from(astray(at, size)));
     }
     count
 }
@@ -60,8 +37,8 @@ pub fn soundness(w: &mut [u64; 256], m: &mut [u8]) {
     let mut bits: u32 = 99;
     let number = meanderpeg_soundness(&m[0..n], &mut bits);
     let mut a = [0u64; 13];
-    a[0] = number as u64;
-    a[1] = bits as u64;
+    a[0] = u64::from(number);
+    a[1] = u64::from(bits);
     answer(m, &a);
 }
 

@@ -16,28 +16,15 @@ const GUID: usize = 239000;
 
 const RESTART: u32 = 4;
 
-fn fill(out: &mut [u32]) {
-    let n = out.len();
-    let mut i = 0;
-    while i < n {
-        out[i] = 7;
-        i += 1;
-    }
-}
+// What each number of the store slice is before a call.
+const FILLER: u32 = 7;
 
-fn differs(n: u32) -> u64 {
-    if n == 7 { 0 } else { 1 }
-}
-
-// How many numbers past the pairs are no 7.
+// How many numbers past the pairs are no longer what they were.
 fn altered(out: &[u32], pairs: usize) -> u64 {
-    let mut count: u64 = 0;
-    let mut i = pairs % 4294967296 * 2;
-    while i < out.len() {
-        count = count.wrapping_add(differs(out[i]));
-        i += 1;
-    }
-    count
+    out.iter()
+        .skip(pairs % 4294967296 * 2)
+        .filter(|n| **n != FILLER)
+        .count() as u64
 }
 
 fn low(n: u64) -> u32 {
@@ -76,19 +63,10 @@ fn session_before(m: &[u8]) -> SessionNumbers {
 
 // The kind as a script has it; Restart where the answer is to name no session, of repair and of start-up refused.
 fn kind_after(which: u64, number: u32, kind: u32) -> u32 {
-    if which == 1 {
+    if which == 1 || which == 0 && number != 0 {
         return kind ^ RESTART;
     }
-    if which == 0 {
-        if number != 0 {
-            return kind ^ RESTART;
-        }
-    }
     kind.wrapping_sub(1)
-}
-
-fn wide(n: u32) -> u64 {
-    n as u64
 }
 
 // The answers of a call, but for what it altered. No refusal fills the second slot.
@@ -96,28 +74,22 @@ fn answers(which: u64, given: AnswerNumbers) -> [u64; 13] {
     let session = given.session;
     let told = given.told;
     let mut a = [0u64; 13];
-    a[0] = given.refusal as u64;
-    a[1] = kind_after(which, given.refusal, session.kind) as u64;
-    a[2] = session.bank as u64;
-    a[3] = session.set as u64;
+    a[0] = u64::from(given.refusal);
+    a[1] = u64::from(kind_after(which, given.refusal, session.kind));
+    a[2] = u64::from(session.bank);
+    a[3] = u64::from(session.set);
     a[4] = given.pairs as u64;
-    a[5] = wide(told[0]) ^ wide(told[1]);
+    a[5] = u64::from(told[0] ^ told[1]);
     a
 }
 
 fn called(m: &mut [u8], out: &mut [u32], which: u64, n: usize, k: usize, request: u64) {
-    if m.len() < n {
-        return;
-    }
-    if m.len() < GUID + 16 {
-        return;
-    }
-    if out.len() < k {
+    if m.len() < n || m.len() < GUID + 16 || out.len() < k {
         return;
     }
     let guid = fields::read_guid(m, GUID);
     let before = session_before(m);
-    fill(out);
+    out.fill(FILLER);
     let given = call(which, before, &m[0..n], &guid, low(request), &mut out[0..k]);
     let mut a = answers(which, given);
     let pairs = a[4] as usize;

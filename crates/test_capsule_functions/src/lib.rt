@@ -10,7 +10,7 @@ use c_values::{
     meanderpeg_capsule_type_guid,
 };
 use c_vendor_code::meanderpeg_capsule_vendor_code;
-use test_machine::answers::{BEFORE, answer, behind};
+use test_machine::answers::{BEFORE, answer, behind, same};
 use test_machine::bytes::{digest_bytes, load};
 use test_machine::{pop, push};
 
@@ -30,18 +30,10 @@ pub fn gather(w: &mut [u64; 256], m: &mut [u8]) {
     let mut place = [BEFORE; 2];
     let number = meanderpeg_gather(&mut m[0..n], base, first, &mut place);
     let mut a = [0u64; 13];
-    a[0] = number as u64;
+    a[0] = u64::from(number);
     a[1] = behind(number, place[0], BEFORE);
     a[2] = behind(number, place[1], BEFORE);
     answer(m, &a);
-}
-
-// The number that two functions return, or 1000 where they differ.
-fn same(x: u32, y: u32) -> u32 {
-    if x == y {
-        return x;
-    }
-    1000
 }
 
 // A start, a length or a count behind a reference, as an answer.
@@ -81,7 +73,7 @@ fn values_told(s: &[u8], k: usize, a: &mut [u64; 13]) -> u32 {
     let of_instance = meanderpeg_capsule_hardware_instance(s, k, &mut instance);
     a[7] = behind(of_guid, half(&guid, 0), BYTES_BEFORE);
     a[8] = behind(of_guid, half(&guid, 8), BYTES_BEFORE);
-    a[9] = behind(of_index, index as u64, BEFORE);
+    a[9] = behind(of_index, u64::from(index), BEFORE);
     a[10] = behind(of_instance, instance, BEFORE);
     same(of_guid, same(of_index, of_instance))
 }
@@ -105,7 +97,7 @@ fn told(s: &[u8], k: usize) -> [u64; 13] {
     let of_parts = parts_told(s, k, &mut a);
     let of_values = values_told(s, k, &mut a);
     let number = counts_told(s, same(of_parts, of_values), &mut a);
-    a[0] = number as u64;
+    a[0] = u64::from(number);
     a
 }
 

@@ -4,7 +4,7 @@
 use c_directory_reader::meanderpeg_directory_check;
 use c_directory_values::{meanderpeg_directory_numbers, meanderpeg_directory_type_guid};
 use c_directory_writer::meanderpeg_directory_write;
-use test_machine::answers::answer;
+use test_machine::answers::{answer, same};
 use test_machine::bytes::{digest, digest_bytes, load, store};
 use test_machine::{pop, push};
 
@@ -17,32 +17,24 @@ fn low(n: u64) -> u32 {
     (n % 4294967296) as u32
 }
 
-fn wide(n: u32) -> u64 {
-    n as u64
-}
-
 fn words(m: &[u8]) -> [u32; 300] {
     let mut given = [0u32; 300];
-    let mut i = 0;
-    while i < 300 {
+    for i in 0..given.len() {
         given[i] = low(load(m, WORDS_FROM + 4 * i, 4));
-        i += 1;
     }
     given
 }
 
 fn put(m: &mut [u8], written: &[u8; 2700]) {
-    let mut i = 0;
-    while i < 675 {
+    for i in 0..675 {
         store(m, WRITTEN_FROM + 4 * i, 4, load(written, 4 * i, 4));
-        i += 1;
     }
 }
 
 // Puts the answers of the writer and its output into the memory, and answers the digest with them.
 fn told(m: &mut [u8], number: u32, length: usize, written: &[u8; 2700], d: u64) -> u64 {
     let mut a = [0u64; 13];
-    a[0] = number as u64;
+    a[0] = u64::from(number);
     a[1] = length as u64;
     answer(m, &a);
     put(m, written);
@@ -55,13 +47,7 @@ pub fn write(w: &mut [u64; 256], m: &mut [u8]) {
     let booted = low(pop(w));
     let length = pop(w) as usize;
     let d = pop(w);
-    if m.len() < length {
-        return;
-    }
-    if 300 < n {
-        return;
-    }
-    if 2700 < room {
+    if m.len() < length || 300 < n || 2700 < room {
         return;
     }
     let given = words(m);
@@ -77,14 +63,6 @@ pub fn write(w: &mut [u64; 256], m: &mut [u8]) {
     push(w, told(m, number, size, &written, d));
 }
 
-// The number that two functions return, or 1000 where they differ.
-fn same(x: u32, y: u32) -> u32 {
-    if x == y {
-        return x;
-    }
-    1000
-}
-
 // What is shown of a directory and of entry k, each 99 before.
 fn shown(s: &[u8], k: usize) -> [u64; 13] {
     let mut header = [99u32; 2];
@@ -94,16 +72,16 @@ fn shown(s: &[u8], k: usize) -> [u64; 13] {
     let of_guid = meanderpeg_directory_type_guid(s, k, &mut guid);
     let of_numbers = meanderpeg_directory_numbers(s, k, &mut numbers);
     let mut a = [0u64; 13];
-    a[0] = same(of_header, same(of_guid, of_numbers)) as u64;
-    a[1] = wide(header[0]);
-    a[2] = wide(header[1]);
+    a[0] = u64::from(same(of_header, same(of_guid, of_numbers)));
+    a[1] = u64::from(header[0]);
+    a[2] = u64::from(header[1]);
     a[3] = guid[0] as u64;
     a[4] = guid[1] as u64;
-    a[5] = wide(numbers[0]);
-    a[6] = wide(numbers[1]);
-    a[7] = wide(numbers[2]);
-    a[8] = wide(numbers[3]);
-    a[9] = wide(numbers[4]);
+    a[5] = u64::from(numbers[0]);
+    a[6] = u64::from(numbers[1]);
+    a[7] = u64::from(numbers[2]);
+    a[8] = u64::from(numbers[3]);
+    a[9] = u64::from(numbers[4]);
     a
 }
 

@@ -38,7 +38,7 @@ use test_area_functions::{apply, report, soundness};
 use test_call_functions::entry;
 use test_capsule_functions::{gather, parts, told_of_item};
 use test_directory_functions::{read, write};
-use test_machine::{pop, push};
+use test_machine::{Turn, pop, push};
 use test_packing_functions::pack;
 
 fn function(w: &mut [u64; 256], m: &mut [u8], out: &mut [u32], c: u8) {
@@ -73,14 +73,12 @@ fn run(
     m: &mut [u8],
     out: &mut [u32],
 ) -> io::Result<()> {
-    let mut fuel: u64 = 1099511627776;
-    while 0 < fuel {
-        let c = test_machine::step(rt, text, w, m)?;
-        if c == test_machine::ENDED {
-            return Ok(());
+    for _ in 0..1099511627776u64 {
+        match test_machine::step(rt, text, w, m)? {
+            Turn::Ran => {}
+            Turn::Ended => return Ok(()),
+            Turn::Asked(letter) => function(w, m, out, letter),
         }
-        function(w, m, out, c);
-        fuel -= 1;
     }
     Ok(())
 }

@@ -51,11 +51,13 @@ const NUMBER: usize = 29;
 
 const DRAWS: usize = 30;
 
-// What `step` answers: that it ran an order, that the text is at its end; else the letter of a function of the
-// program's.
-pub const RAN: u8 = 0;
-
-pub const ENDED: u8 = 1;
+// What `step` came to: it ran an order, the text is at its end, or it met the letter of a function of the program's.
+#[derive(Clone, Copy, Debug, PartialEq, Eq)]
+pub enum Turn {
+    Ran,
+    Ended,
+    Asked(u8),
+}
 
 pub fn push(w: &mut [u64; 256], v: u64) {
     let d = w[DEPTH] % 64;
@@ -69,30 +71,18 @@ pub fn pop(w: &mut [u64; 256]) -> u64 {
     w[64 + d as usize]
 }
 
-// a * b modulo 2^64, by halves.
-fn times(a: u64, b: u64) -> u64 {
-    let x = a % 4294967296;
-    let y = b % 4294967296;
-    let crossed = (a / 4294967296 * y) % 4294967296 + (b / 4294967296 * x) % 4294967296;
-    (crossed % 4294967296 * 4294967296).wrapping_add(x * y)
-}
-
-fn truth(t: bool) -> u64 {
-    if t { 1 } else { 0 }
-}
-
 fn calculated(c: u8, a: u64, b: u64) -> u64 {
     match c {
         b'+' => a.wrapping_add(b),
         b'-' => a.wrapping_sub(b),
-        b'*' => times(a, b),
+        b'*' => a.wrapping_mul(b),
         b'/' => if b == 0 { 0 } else { a / b },
         b'%' => if b == 0 { 0 } else { a % b },
         b'&' => a & b,
         b'|' => a | b,
         b'^' => a ^ b,
-        b'<' => truth(a < b),
-        _ => truth(a == b),
+        b'<' => u64::from(a < b),
+        _ => u64::from(a == b),
     }
 }
 
@@ -104,7 +94,7 @@ fn drawn(x: u64) -> u64 {
 // One of four steps at the start of the draws.
 fn stirred(x: u64) -> u64 {
     let y = x % 2147483648;
-    drawn(times(y, y / 65536 * 2 + 1) % 2147483648 + 12345)
+    drawn(y.wrapping_mul(y / 65536 * 2 + 1) % 2147483648 + 12345)
 }
 
 fn start(w: &mut [u64; 256]) {
@@ -134,22 +124,20 @@ fn digit(w: &mut [u64; 256], c: u8) {
     }
     w[NUMBER] = at;
     let top = 64 + ((w[DEPTH] % 64 + 63) % 64) as usize;
-    w[top] = times(w[top], 10).wrapping_add((c % 16) as u64);
+    w[top] = w[top].wrapping_mul(10).wrapping_add(u64::from(c % 16));
 }
 
 // Behind the end of what is open at `from`.
 fn past(text: &[u8], from: usize, open: u8, close: u8) -> usize {
     let mut depth: u64 = 1;
-    let mut i = from;
-    while i < text.len() {
-        let opened = depth.wrapping_add(truth(text[i] == open));
-        depth = opened.wrapping_sub(truth(text[i] == close));
-        i += 1;
+    for i in from..text.len() {
+        let opened = depth.wrapping_add(u64::from(text[i] == open));
+        depth = opened.wrapping_sub(u64::from(text[i] == close));
         if depth == 0 {
-            return i;
+            return i + 1;
         }
     }
-    i
+    from.max(text.len())
 }
 
 // A frame of a loop, or with no turns of a procedure.
@@ -218,21 +206,17 @@ fn quote(rt: &impl Print, text: &[u8], w: &mut [u64; 256]) -> io::Result<()> {
     let at = w[POSITION] as usize;
     let end = past(text, at, 0, b'"');
     w[POSITION] = end as u64;
-    if text.len() < end {
+    if text.len() < end || end <= at {
         return Ok(());
     }
-    if end <= at {
-        return Ok(());
-    }
-    let last = end - 1;
-    rt.write_all(&text[at..last])
+    rt.write_all(&text[at..end - 1])
 }
 
 // An order over the top of the stack and, where it has two numbers, the one below it.
 fn calculate(w: &mut [u64; 256], c: u8) {
     let b = pop(w);
     if c == b'!' {
-        push(w, truth(b == 0));
+        push(w, u64::from(b == 0));
         return;
     }
     if c == b'?' {
@@ -288,14 +272,14 @@ fn over(w: &mut [u64; 256], m: &mut [u8], c: u8) {
 }
 
 // The functions of the machine's own.
-fn function(rt: &impl Print, w: &mut [u64; 256], m: &mut [u8], c: u8) -> io::Result<u8> {
+fn function(rt: &impl Print, w: &mut [u64; 256], m: &mut [u8], c: u8) -> io::Result<Turn> {
     match c {
         b'x' => start(w),
         b'f' | b'z' | b'm' | b'b' => over(w, m, c),
         b'k' => {
             let n = pop(w) as usize;
             let at = pop(w) as usize;
-            push(w, record_crc::crc32(bytes::part(m, at, n)) as u64);
+            push(w, u64::from(record_crc::crc32(bytes::part(m, at, n))));
         }
         b'd' => {
             let n = pop(w);
@@ -306,52 +290,47 @@ fn function(rt: &impl Print, w: &mut [u64; 256], m: &mut [u8], c: u8) -> io::Res
             let n = pop(w);
             print!(rt; "{n:08x}")?;
         }
-        _ => return Ok(c),
+        1 => return Ok(Turn::Ended),
+        _ => return Ok(Turn::Asked(c)),
     }
-    Ok(RAN)
+    Ok(Turn::Ran)
 }
 
 // Runs the order at the position. It fails only where that order prints and the text does not get out.
-pub fn step(rt: &impl Print, text: &[u8], w: &mut [u64; 256], m: &mut [u8]) -> io::Result<u8> {
+pub fn step(rt: &impl Print, text: &[u8], w: &mut [u64; 256], m: &mut [u8]) -> io::Result<Turn> {
     let c = next(text, w);
     if c == 0 {
-        return Ok(ENDED);
+        return Ok(Turn::Ended);
     }
     if c == b'~' {
         let name = next(text, w);
         return function(rt, w, m, name);
     }
     order(rt, text, w, m, c)?;
-    Ok(RAN)
+    Ok(Turn::Ran)
 }
 
-// Looks at the character at i, behind a comment's beginning (1) or not (0), and answers which it is then.
-fn look(s: &mut [u8], w: &mut [u64; 256], i: usize, comment: u8) -> u8 {
+// Looks at the character at i, behind a comment's beginning or not, and answers which it is then.
+fn look(s: &mut [u8], w: &mut [u64; 256], i: usize, comment: bool) -> bool {
     let c = bytes::byte(s, i);
-    if c == b'#' {
-        return 1;
+    if c == b'#' || c == b'\n' {
+        return c == b'#';
     }
-    if c == b'\n' {
-        return 0;
-    }
-    if comment == 1 {
+    if comment {
         bytes::store(s, i, 1, 32);
-        return 1;
+        return true;
     }
     if c == b'[' {
         let name = (bytes::byte(s, i.wrapping_add(1)) % 64) as usize;
         w[192 + name] = (i as u64).wrapping_add(2);
     }
-    0
+    false
 }
 
 // Blanks the comments of a text, so that no bracket of theirs counts, and notes where procedures begin.
 pub fn prepare(s: &mut [u8], w: &mut [u64; 256]) {
-    let n = s.len();
-    let mut comment: u8 = 0;
-    let mut i = 0;
-    while i < n {
+    let mut comment = false;
+    for i in 0..s.len() {
         comment = look(s, w, i, comment);
-        i += 1;
     }
 }

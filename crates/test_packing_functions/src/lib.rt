@@ -22,28 +22,24 @@ const OUTPUT_FROM: usize = 70000;
 // The output slice as it stands in the memory.
 fn output(m: &[u8]) -> [u8; 10000] {
     let mut out = [0u8; 10000];
-    let mut i = 0;
-    while i < 10000 {
+    for i in 0..out.len() {
         out[i] = byte(m, OUTPUT_FROM + i);
-        i += 1;
     }
     out
 }
 
 fn put(m: &mut [u8], out: &[u8; 10000]) {
-    let mut i = 0;
-    while i < 1250 {
+    for i in 0..1250 {
         store(m, OUTPUT_FROM + 8 * i, 8, load(out, 8 * i, 8));
-        i += 1;
     }
 }
 
 // Puts the answers and the output slice into the memory.
 fn told(m: &mut [u8], numbers: [u32; 2], lengths: [usize; 2], out: &[u8; 10000]) {
     let mut a = [0u64; 13];
-    a[0] = numbers[0] as u64;
+    a[0] = u64::from(numbers[0]);
     a[1] = lengths[0] as u64;
-    a[2] = numbers[1] as u64;
+    a[2] = u64::from(numbers[1]);
     a[3] = lengths[1] as u64;
     answer(m, &a);
     put(m, out);

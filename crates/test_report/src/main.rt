@@ -24,17 +24,13 @@ fn show(rt: &(impl Print + Eprint + Files), name: &str) -> io::Result<()> {
     }
 }
 
-fn wide(x: u8) -> u64 {
-    x as u64
-}
-
 // A slice that is too short for some report: the answer, and the first byte as it was.
 fn short_slice(rt: &impl Print) -> io::Result<()> {
     let area = [0u8; 0];
     let mut text = [7u8; 4095];
     println!(rt; "slice of 4095")?;
     let answer = report::report(&area, &mut text);
-    println!(rt; "{answer} {}", wide(text[0]))
+    println!(rt; "{answer} {}", text[0])
 }
 
 fn main(rt: HostRuntime) -> io::Result<()> {

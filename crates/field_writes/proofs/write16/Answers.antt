@@ -1,17 +1,7 @@
--- `write16` meets its contract: two stores of a byte. Assumes nothing.
-use mathlib.Core.List.{[], ◌∷◌}
-use Prim.Native.Nat.{◌/◌, ◌%◌}
-use native.Mathlib.Numerals.{add-one}
-use native.Mathlib.Omega.{arith}
-use lib.ListN.{length-set}
-use Rattle.fields.proofs.Number.{bytes_two}
-use Rattle.fields.proofs.Put.{put_sets}
+-- `write16` meets its contract. Assumes nothing.
+use mathlib.Core.Path.{◌∙◌}
+use Rattle.field_writes.proofs.Written.{written}
 use Rattle.field_writes.proofs.write16.Goals as goal
 
-pub bounds-s-at-2 : goal.bounds-s-at-2
-bounds-s-at-2 c = simp length-set (omega arith)
-
 pub returns : goal.returns
-returns c =
-    let a = c.args in
-    rw (add-one, bytes_two a.v (omega arith)) (put_sets a.s.now a.at (a.v % 256 ∷ a.v / 256 ∷ []) (omega arith))
+returns c = written 2 c.args.s.now c.args.at c.args.v (c.copy_from_slice.ensures.after ∙ c.to_le_bytes.ensures)

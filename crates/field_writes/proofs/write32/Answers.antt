@@ -1,9 +1,7 @@
--- `write32` meets its contract: the low half, then the high half. Assumes nothing.
-use native.Mathlib.Omega.{arith}
-use Rattle.fields.proofs.Put.{two_halves}
+-- `write32` meets its contract. Assumes nothing.
+use mathlib.Core.Path.{◌∙◌}
+use Rattle.field_writes.proofs.Written.{written}
 use Rattle.field_writes.proofs.write32.Goals as goal
 
 pub returns : goal.returns
-returns c =
-    let a = c.args in
-    two_halves 2 2 a.s.now a.at a.v (omega arith) c.write16.ensures c.write16-2.ensures
+returns c = written 4 c.args.s.now c.args.at c.args.v (c.copy_from_slice.ensures.after ∙ c.to_le_bytes.ensures)

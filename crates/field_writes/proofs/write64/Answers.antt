@@ -1,9 +1,7 @@
--- `write64` meets its contract: the low half, then the high half. Assumes nothing.
-use native.Mathlib.Omega.{arith}
-use Rattle.fields.proofs.Put.{two_halves}
+-- `write64` meets its contract. Assumes nothing.
+use mathlib.Core.Path.{◌∙◌}
+use Rattle.field_writes.proofs.Written.{written}
 use Rattle.field_writes.proofs.write64.Goals as goal
 
 pub returns : goal.returns
-returns c =
-    let a = c.args in
-    two_halves 4 4 a.s.now a.at a.v (omega arith) c.write32.ensures c.write32-2.ensures
+returns c = written 8 c.args.s.now c.args.at c.args.v (c.copy_from_slice.ensures.after ∙ c.to_le_bytes.ensures)

@@ -1,23 +1,11 @@
--- `read16` meets its contract: a byte is below 256. Assumes nothing.
+-- `read16` meets its contract: byte by byte. Assumes nothing.
 use Prim.Native.Nat.{◌+◌}
 use native.Mathlib.Omega.{arith}
-use Rattle.fields.specs.Number.{le}
+use Rattle.fields.proofs.Number.{le_next, le_at, le_none}
 use Rattle.fields.proofs.read16.Goals as goal
 
-pub overflow_cast-result : goal.overflow_cast-result
-overflow_cast-result c = omega (arith, c.type_inv.s c.args.at)
-
-pub overflow_cast-result-2 : goal.overflow_cast-result-2
-overflow_cast-result-2 c = omega (arith, c.type_inv.s (c.args.at + 1))
-
-pub overflow_mul-result : goal.overflow_mul-result
-overflow_mul-result c = omega (arith, c.type_inv.s (c.args.at + 1))
-
-pub overflow_add-result-2 : goal.overflow_add-result-2
-overflow_add-result-2 c =
-    omega
-    (arith, c.type_inv.s c.args.at, c.type_inv.s (c.args.at + 1))
-
 pub returns : goal.returns
-unfolding le
-returns c = omega arith
+returns c =
+    let s = c.args.s.now in
+    let i = c.args.at in
+    omega (arith, c.from_le_bytes.ensures, le_next 1 s i, le_at 0 s i 1, le_none s (i + 2))

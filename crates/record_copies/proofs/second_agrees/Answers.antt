@@ -9,6 +9,6 @@ pub returns-then-sound_at : goal.returns-then-sound_at
 unfolding sound_and_equal sound_copy
 returns-then-sound_at c = rw (from_copy0 c.args.area.now c.requires.1, sym c.sound_at.ensures ∙ c.if-sound_at.true) c.records_equal.ensures
 
-pub returns : goal.returns
+pub returns-else-sound_at : goal.returns-else-sound_at
 unfolding sound_and_equal sound_copy
-returns c = rw (from_copy0 c.args.area.now c.requires.1, sym c.sound_at.ensures ∙ c.if-sound_at.false)
+returns-else-sound_at c = rw (from_copy0 c.args.area.now c.requires.1, sym c.sound_at.ensures ∙ c.if-sound_at.false) c.if-sound_at.false

@@ -1,9 +1,0 @@
--- Safety alone: the loop counts up to its end.
-use Rattle.std.proofs.Common.{◌≤◌, ◌-◌}
-use Rattle.demonstration.proofs.parts.show_guid.Given as goal
-
-abbrev pub invariant-loop-i : goal.invariant-loop-i
-invariant-loop-i g l = l.i ≤ 16
-
-abbrev pub decreases-loop-i : goal.decreases-loop-i
-decreases-loop-i g l = 16 - l.i

@@ -1,9 +1,0 @@
--- Safety alone: the loop counts up to its end.
-use Rattle.std.proofs.Common.{◌≤◌, ◌-◌}
-use Rattle.demonstration.proofs.steps.apply.Given as goal
-
-abbrev pub invariant-loop-i : goal.invariant-loop-i
-invariant-loop-i l = l.i ≤ l.n
-
-abbrev pub decreases-loop-i : goal.decreases-loop-i
-decreases-loop-i l = l.n - l.i

@@ -1,9 +1,0 @@
--- Safety alone: the loop goes on by four to the end.
-use Rattle.std.proofs.Common.{◌≤◌, ◌-◌}
-use Rattle.test_machine.proofs.bytes.digest_bytes.Given as goal
-
-abbrev pub invariant-loop-i : goal.invariant-loop-i
-invariant-loop-i l = l.i ≤ l.n
-
-abbrev pub decreases-loop-i : goal.decreases-loop-i
-decreases-loop-i l = l.n - l.i

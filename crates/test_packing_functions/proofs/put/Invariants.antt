@@ -1,9 +1,0 @@
--- Safety alone: the loop counts up to its end.
-use Rattle.std.proofs.Common.{◌≤◌, ◌-◌}
-use Rattle.test_packing_functions.proofs.put.Given as goal
-
-abbrev pub invariant-loop-i : goal.invariant-loop-i
-invariant-loop-i l = l.i ≤ 1250
-
-abbrev pub decreases-loop-i : goal.decreases-loop-i
-decreases-loop-i l = 1250 - l.i
