@@ -27,7 +27,7 @@ fn with_byte(t: &[u32; 256], r: u32, b: u8) -> u32
     requires { TableRight t.now }
     ensures { result ≡ with_byte r b }
 {
-    let x = r ^ (b as u32);
+    let x = r ^ u32::from(b);
     t[(x % 256) as usize] ^ (x / 256)
 }
 

@@ -46,7 +46,7 @@ pub fn bank_entry_size_rule(r: &[u8]) -> bool
     requires { header_size ≤ length r.now }
     ensures { result ≡ bank_entry_size_rule r.now }
 {
-    read16(r, BANK_ENTRY_SIZE_AT) as usize == BANK_ENTRY
+    usize::from(read16(r, BANK_ENTRY_SIZE_AT)) == BANK_ENTRY
 }
 
 // R10: the image entry size.
@@ -55,7 +55,7 @@ pub fn image_entry_size_rule(r: &[u8]) -> bool
     requires { header_size ≤ length r.now }
     ensures { result ≡ image_entry_size_rule r.now }
 {
-    read16(r, IMAGE_ENTRY_SIZE_AT) as usize == entry_size(bank_count(r))
+    usize::from(read16(r, IMAGE_ENTRY_SIZE_AT)) == entry_size(bank_count(r))
 }
 
 // R11: the size, and that so many bytes are there.

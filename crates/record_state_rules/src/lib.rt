@@ -54,5 +54,6 @@ pub fn banks_rule(c: Counted) -> bool
     requires { active c.bytes.now < c.banks }
     ensures { result ≡ banks_rule c.entry.bytes.now }
 {
-    (0..c.banks).all(|b| bank_consistent(c, b)) && state(c.bytes, active(c.bytes) as usize) != INVALID
+    (0..c.banks).all(|b| bank_consistent(c, b))
+        && state(c.bytes, active(c.bytes) as usize) != INVALID
 }

@@ -8,4 +8,5 @@ use Rattle.record_entry_rules.proofs.all_words.Goals as goal
 pub returns : goal.returns
 returns c =
     let a = c.args in
-    below_from_all (bank_words a.c.bytes.now a.c.banks a.from a.limit) a.c.images _ _ c.all.result refl c.all.ensures.ran (λ x b q k. search rules)
+    below_from_all (bank_words a.c.bytes.now a.c.banks a.from a.limit) a.c.images _ _ c.all.result refl c.all.ensures.ran
+    (λ x b q k. search rules)

@@ -13,5 +13,6 @@ pub returns : goal.returns
 unfolding bank_words
 returns c =
     let a = c.args in
-    below_from_all (λ b. leb (le 4 a.c.bytes.now (bank_entry_at a.c.banks a.i b + a.from)) a.limit) a.c.banks _ _ c.all.result refl c.all.ensures.ran
-    (λ x b q k. search (rules, tests))
+    let r = a.c.bytes.now in
+    below_from_all (λ b. leb (le 4 r (bank_entry_at a.c.banks a.i b + a.from)) a.limit) a.c.banks _ _ c.all.result refl
+    c.all.ensures.ran (λ x b q k. search (rules, tests))

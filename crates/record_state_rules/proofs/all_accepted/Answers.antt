@@ -12,4 +12,5 @@ unfolding all_accepted
 returns c =
     let a = c.args in
     rw c.requires.0.images_is
-    (below_from_all (λ i. eqb (accepted a.r.now i a.b) 1) a.images _ _ c.all.result refl c.all.ensures.ran (λ x b q k. search (rules, tests)))
+    (below_from_all (λ i. eqb (accepted a.r.now i a.b) 1) a.images _ _ c.all.result refl c.all.ensures.ran
+    (λ x b q k. search (rules, tests)))
