@@ -30,8 +30,7 @@ unfolding below
 below_listed test n = below_on test 0 n ∙ ap (λ (k : ℕ). below k test) (zero-add n)
 
 -- from the clause of `(0..n).all(f)`, where each call of f leaves f as it was and answers the test
-pub below_from_all : {F : Type 0} {g : Mut F (ℕ × Unit {0}) Bool} {s : Range ℕ}
-    (test : ℕ → Bool) (n : ℕ) (u : Range ℕ) (f : F) (r : Bool)
+pub below_from_all : {F : Type 0} {g : Mut F (ℕ × Unit {0}) Bool} {s : Range ℕ} (test : ℕ → Bool) (n : ℕ) (u : Range ℕ) (f : F) (r : Bool)
     → s ≡ record { start = 0; end = n }
     → (xs : List ℕ) × (o : Option ℕ) × (j : F) × YieldsThen nat_range_steps s xs o u
     × FoldsTo (λ p x q. Called g p (x, tt) true q) f xs j
