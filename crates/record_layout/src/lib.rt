@@ -1,16 +1,19 @@
-// The record's layout (R1 to R3): the record in a copy and in each copy of an area, its fields by name, where an
-// image's entry stands in it, and its accepted word in a bank. A record is a slice of the area's own bytes; nothing is
-// copied. The rules of soundness are defined here, and tested in the crates above.
+// The record's layout (R1 to R3): the record in a copy, alone or in an area, its fields by name, where an image's entry
+// stands in it, and its accepted word in a bank. A record is a slice of the area's own bytes; nothing is copied. The
+// rules of soundness are defined here, and tested in the crates above.
 #![tactic(auto)]
 
 ghost use Rattle.std.specs.Prelude.{◌≡◌, ◌+◌, ◌≤◌, ◌<◌, length};
 ghost use Rattle.fields.specs.Number.{le};
-ghost use Rattle.record_layout.specs.Layout.{area_size, copy_size, copy_at, copy0, copy1};
+ghost use Rattle.record_layout.specs.Layout.{area_size, copy_size, copy_at};
 ghost use Rattle.record_layout.specs.Layout.{header_size, bank_limit, image_limit, record_limit, state_at};
 ghost use Rattle.record_layout.specs.Layout.{version, size, active, previous, state, bank_count, image_count, record_of};
 ghost use Rattle.record_layout.specs.Layout.{entry_size, entry_at, bank_entry_at, accepted};
 ghost use Rattle.record_layout.specs.Sized.{Sized};
 
+mod counted;
+
+pub use counted::Counted;
 use fields::{read16, read32};
 
 // The lengths of an area, of a copy and of a record's header.
@@ -76,17 +79,11 @@ pub fn record_in(c: &[u8]) -> &[u8]
     requires { header_size ≤ length c.now }
     ensures { result.now ≡ record_of c.now }
 {
-    let n = size(c) as usize;
-    if n < HEADER {
-        return &c[0..HEADER];
-    }
-    if c.len() < n {
-        return c;
-    }
-    &c[0..n]
+    &c[..(size(c) as usize).max(HEADER).min(c.len())]
 }
 
 // The record in the copy that stands at base in an area.
+#[tactic(auto, using(crate::proofs::Copies::copy_is))]
 pub fn record_at(area: &[u8], base: usize) -> &[u8]
     requires { (length area.now ≡ area_size) × (base ≤ copy_size) }
     ensures { result.now ≡ record_of (copy_at base area.now) }
@@ -94,22 +91,7 @@ pub fn record_at(area: &[u8], base: usize) -> &[u8]
     record_in(&area[base..base + COPY])
 }
 
-// The record in copy 0.
-pub fn record_in_copy0(area: &[u8]) -> &[u8]
-    requires { length area.now ≡ area_size }
-    ensures { result.now ≡ record_of (copy0 area.now) }
-{
-    record_at(area, 0)
-}
-
-// The record in copy 1.
-pub fn record_in_copy1(area: &[u8]) -> &[u8]
-    requires { length area.now ≡ area_size }
-    ensures { result.now ≡ record_of (copy1 area.now) }
-{
-    record_at(area, COPY)
-}
-
+// The header's fields by name: each function names one field, so that no caller names an offset.
 pub fn version(r: &[u8]) -> u32
     requires { header_size ≤ length r.now }
     ensures { result ≡ version r.now }
@@ -142,14 +124,14 @@ pub fn bank_count(r: &[u8]) -> usize
     requires { header_size ≤ length r.now }
     ensures { result ≡ bank_count r.now }
 {
-    r[BANK_COUNT_AT] as usize
+    usize::from(r[BANK_COUNT_AT])
 }
 
 pub fn image_count(r: &[u8]) -> usize
     requires { header_size ≤ length r.now }
     ensures { result ≡ image_count r.now }
 {
-    read16(r, IMAGE_COUNT_AT) as usize
+    usize::from(read16(r, IMAGE_COUNT_AT))
 }
 
 // The state of bank b, of a record that may have fewer banks.
@@ -185,6 +167,7 @@ pub fn entry_at(banks: usize, i: usize) -> usize
 }
 
 // The word at `from` in the entry of bank b, in that of image i.
+#[tactic(auto, using(crate::proofs::Sizes::bank_in))]
 pub fn bank_word(r: &[u8], banks: usize, i: usize, b: usize, from: usize) -> u32
     requires { Sized r.now banks (image_count r.now) × (i < image_count r.now) × (b < banks) × (from ≤ 20) }
     ensures { result ≡ le 4 r.now (bank_entry_at banks i b + from) }

@@ -4,4 +4,4 @@ use Rattle.record_crc.proofs.Lookup.{lookup}
 use Rattle.record_crc.proofs.with_byte.Goals as goal
 
 pub returns : goal.returns
-returns c = let a = c.args in sym (lookup a.t.now c.requires a.r a.b)
+returns c = let a = c.args in rw c.from.ensures (sym (lookup a.t.now c.requires a.r a.b))
