@@ -51,17 +51,7 @@ pub fn offsets_right(b: &[u8], n: usize) -> bool
     requires { (8 ≤ length b.now) × (n ≡ items b.now) × (n ≤ 64) }
     ensures { result ≡ all (offset_right b.now) (items b.now) }
 {
-    if b.len() < 8 + 8 * n {
-        return false;
-    }
-    let mut k = 0;
-    while k < n {
-        if !offset_right(b, n, k) {
-            return false;
-        }
-        k += 1;
-    }
-    true
+    8 + 8 * n <= b.len() && (0..n).all(|k| offset_right(b, n, k))
 }
 
 // The body, its payloads aside: N14.

@@ -1,6 +1,6 @@
 -- `offset_right` meets its contract: the tests in the definition's order. Assumes nothing.
 use borrow.Author.Tests.{lt-leb, le-leb, le-ltb, lt-ltb}
-use Prim.Native.Nat.{◌+◌, ◌*◌, ◌-◌}
+use Prim.Native.Nat.{◌+◌, ◌*◌}
 use native.Mathlib.Omega.{arith}
 use lib.ListN.{length}
 use Rattle.fields.specs.Number.{le}
