@@ -17,8 +17,8 @@ use Rattle.capsule_body.proofs.Body.{all_each, all_fails}
 -- ran is the call's clause; each call of f at x gives p x and leaves f as it was
 pub all_from_Range : {F : Type 0} {g : Mut F (ℕ × Unit {0}) Bool} {s u : Range ℕ} {f : F} {r : Bool} (p : ℕ → Bool) (n : ℕ)
     → (xs : List ℕ) × (o : Option ℕ) × (j : F) × YieldsThen nat_range_steps s xs o u
-        × FoldsTo (λ q x t. Called g q (x, tt) true t) f xs j
-        × MatchOption o (r ≡ true) (λ x. (r ≡ false) × ((h : F) × Called g j (x, tt) false h))
+    × FoldsTo (λ q x t. Called g q (x, tt) true t) f xs j
+    × MatchOption o (r ≡ true) (λ x. (r ≡ false) × ((h : F) × Called g j (x, tt) false h))
     → (s.start ≡ 0) × (s.end ≡ n)
     → ((x : ℕ) (t : Bool) (q : F) → Called g f (x, tt) t q → (q ≡ f) × (t ≡ p x))
     → r ≡ all p n
