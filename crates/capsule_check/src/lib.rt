@@ -6,7 +6,7 @@ ghost use Rattle.std.specs.Prelude.{◌≡◌};
 ghost use Rattle.capsule_check.specs.Verdict.{verdict};
 ghost use Rattle.capsule_check.specs.Item.{located};
 
-use capsule_body::{body_right, item_end, item_start};
+use capsule_body::{body_right, drivers, item_end, item_start, payloads};
 use capsule_header::{body_of, flags_right, guid_right, sizes_right};
 use capsule_payloads::payloads_right;
 use refusals::Refusal;
@@ -52,15 +52,16 @@ pub fn locate(s: &[u8], k: usize) -> Result<Item, Refusal>
     check(s)?;
     let body = fields::read32(s, 16) as usize;
     let b = body_of(s);
-    let first = fields::read16(b, 4) as usize;
-    let n = first + (fields::read16(b, 6) as usize);
+    let first = drivers(b);
+    let n = first + payloads(b);
     if n <= k {
         return Err(Refusal::NoItem);
     }
     let start = body + item_start(b, n, k);
     let end = body + item_end(b, n, k);
     if k < first {
-        return Ok(Item::Driver { start, end });
+        Ok(Item::Driver { start, end })
+    } else {
+        Ok(Item::Payload { start, end })
     }
-    Ok(Item::Payload { start, end })
 }
