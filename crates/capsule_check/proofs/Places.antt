@@ -10,14 +10,15 @@ use lib.ListN.{length, drop}
 use lib.Seq.{drop-drop}
 use Rattle.refusals.specs.declared.Refusal.{Refusal}
 use Rattle.refusals.specs.declared.Refusal.TheVariants.{NoItem}
-use Rattle.capsule_header.specs.Header.{header_size, body}
+use Rattle.fields.specs.Number.{le}
+use Rattle.capsule_header.specs.Header.{header_size, sizes_right, body}
 use Rattle.capsule_payloads.specs.Payload.{payload_right}
 use Rattle.fields.specs.Part.{part}
-use Rattle.capsule_body.specs.Body.{drivers, payloads, items, offset, item_end}
+use Rattle.capsule_body.specs.Body.{drivers, payloads, items, offset, item_end, body_right}
 use Rattle.capsule_payloads.specs.Payload.{payload_at_right, payloads_right}
 use Rattle.capsule_body.specs.Body.{item as item_bytes}
-use Rattle.capsule_header.proofs.Header.{body_length}
-use Rattle.capsule_body.proofs.Body.{all_at, item_in}
+use Rattle.capsule_header.proofs.Header.{header_in, body_length}
+use Rattle.capsule_body.proofs.Body.{all_at, counts_fit, item_in}
 use Rattle.capsule_check.specs.Verdict.{verdict_of, unless, after, verdict, item_verdict}
 use Rattle.capsule_check.specs.Item.{item_start_in, item_end_in, item_of, found, located}
 use Rattle.std.specs.Prelude.{Result, Ok, Err}
@@ -109,3 +110,36 @@ holds s k = go (verdict s) refl
         → Holds s (found (after v (unless (ltb k (items (body s))) NoItem (Ok tt))) (item_of (ltb k (drivers (body s))) (item_start_in s k) (item_end_in s k)))
     go (Ok x) e = numbers (faultless s e) (ltb k (items (body s))) refl
     go (Err r) e = tt
+
+-- ---- what `locate` asks of a faultless capsule, and gives
+module _ (s : List ℕ) (e : verdict s ≡ Ok tt) where
+  pub header_read : 28 ≤ length s
+  header_read = let h = header_in s (faultless s e).sizes in omega (arith, h.0, h.1)
+
+  pub sizes_known : sizes_right s ≡ true
+  sizes_known = (faultless s e).sizes
+
+  pub offsets_known : body_right (body s) ≡ true
+  offsets_known = (faultless s e).offsets
+
+  pub counts_read : 8 ≤ length (body s)
+  counts_read = counts_fit (body s) offsets_known
+
+  module _ (k : ℕ) (lt : k < items (body s)) where
+    pub start_in : le 4 s 16 + offset (body s) k < length s
+    unfolding item_start_in header_size
+    start_in = let i = item_inside s k (faultless s e) lt in omega (arith, i.some, i.within)
+
+    pub end_in : le 4 s 16 + item_end (body s) k ≤ length s
+    unfolding item_end_in header_size
+    end_in = (item_inside s k (faultless s e) lt).within
+
+    pub driver_in : k < drivers (body s) → located s k ≡ Ok (Driver (le 4 s 16 + offset (body s) k) (le 4 s 16 + item_end (body s) k))
+    unfolding item_start_in item_end_in header_size
+    driver_in d = located_driver s k e lt d
+
+    pub payload_in : drivers (body s) ≤ k → located s k ≡ Ok (Payload (le 4 s 16 + offset (body s) k) (le 4 s 16 + item_end (body s) k))
+    unfolding item_start_in item_end_in header_size
+    payload_in d = located_payload s k e lt d
+
+pub ruleset picks = (located_refused, located_none, header_read, sizes_known, offsets_known, counts_read, start_in, end_in, driver_in, payload_in)

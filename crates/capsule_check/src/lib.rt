@@ -46,6 +46,7 @@ pub fn check(s: &[u8]) -> Result<(), Refusal>
 }
 
 // Where item k lies, after the check of the whole capsule; or the refusal, 16 too.
+#[tactic(auto, using(crate::proofs::Places::picks))]
 pub fn locate(s: &[u8], k: usize) -> Result<Item, Refusal>
     ensures { result ≡ located s.now k }
 {
