@@ -110,7 +110,8 @@ pub holds : (s : List ℕ) (k : ℕ) → Holds s (located s k)
 unfolding located item_verdict Holds
 holds s k = go (verdict s) refl
   where
-    kinds : Sound s → k < items (body s) → (d : Bool) → ltb k (drivers (body s)) ≡ d → Holds s (Ok (item_of d (item_start_in s k) (item_end_in s k)))
+    kinds : Sound s → k < items (body s) → (d : Bool) → ltb k (drivers (body s)) ≡ d
+        → Holds s (Ok (item_of d (item_start_in s k) (item_end_in s k)))
     kinds sound lt true q = item_inside s k sound lt
     kinds sound lt false q =
         let low = ltb-false k (drivers (body s)) q in
@@ -179,6 +180,6 @@ module _ (s : List ℕ) (e : verdict s ≡ Ok tt) where
     payload_in d = located_payload s k e lt d
 
 -- what the header and the counts ask
-pub ruleset known = (header_read, sizes_known, offsets_known, counts_read)
+pub ruleset fit = (header_read, sizes_known, offsets_known, counts_read)
 
-pub ruleset picks = (known, located_refused, located_none, start_in, end_in, driver_in, payload_in)
+pub ruleset picks = (fit, located_refused, located_none, start_in, end_in, driver_in, payload_in)

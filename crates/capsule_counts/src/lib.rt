@@ -18,7 +18,7 @@ pub struct Counts {
 }
 
 // Those of a faultless capsule, or the refusal. It serves c_capsule too.
-#[tactic(auto, using(capsule_check::proofs::Places::known), unfolding(crate::specs::Count::driver_count, crate::specs::Count::payload_count))]
+#[tactic(auto, using(capsule_check::proofs::Places::fit), unfolding(crate::specs::Count::driver_count, crate::specs::Count::payload_count))]
 pub fn counts_of(s: &[u8]) -> Result<Counts, Refusal>
     ensures judged { verdict_of result ≡ verdict s.now }
     ensures counted { IfOk result (λ c. (c.drivers ≡ driver_count s.now) × (c.payloads ≡ payload_count s.now)) }

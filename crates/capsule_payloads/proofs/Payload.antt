@@ -6,10 +6,12 @@ use Prim.Native.Nat.{ℕ, ◌+◌, ◌<◌, ◌≤◌}
 use native.Mathlib.Omega.{arith}
 use borrow.Author.Tests.{leb-true, lt-leb, ne_eqb}
 use lib.Dec.{leb, eqb}
-use lib.ListN.{length}
+use lib.ListN.{length, get_or}
 use Rattle.fields.specs.Number.{le}
+use Rattle.fields.specs.Guid.{guid}
 use Rattle.fields.proofs.Tests.{both}
-use Rattle.capsule_payloads.specs.Payload.{version, image_size, vendor_code_size, version_right, header_length, payload_right, vendor_code_end}
+use Rattle.capsule_payloads.specs.Payload.{version, type_guid, image_index, image_size, vendor_code_size}
+use Rattle.capsule_payloads.specs.Payload.{version_right, header_length, payload_right, vendor_code_end}
 
 -- a payload header is 32 or 40 bytes long
 pub header_ends : (v : ℕ) → (32 ≤ header_length v) × (header_length v ≤ 40)
@@ -63,5 +65,20 @@ module _ (p : List ℕ) where
   unfolding version image_size vendor_code_size
   read_fits e = payload_fits e
 
+  pub second_read : payload_right p ≡ true → (le 4 p 0 ≡ 1 → ⊥) → 40 ≤ length p
+  unfolding version
+  second_read e ne = second_header e ne
+
+  pub type_guid_read : type_guid p ≡ guid p 4
+  unfolding type_guid
+  type_guid_read = refl
+
+  pub image_index_read : image_index p ≡ get_or p 20 0
+  unfolding image_index
+  image_index_read = refl
+
+-- its fields
+pub ruleset fields_read = (version_read, type_guid_read, image_index_read, image_size_read, vendor_code_size_read)
+
 -- what a right payload's header tells
-pub ruleset told = (first_header, read_fits, version_read, image_size_read, vendor_code_size_read)
+pub ruleset told = (first_header, second_read, read_fits, fields_read)

@@ -27,9 +27,10 @@ fn instance_of(p: &[u8]) -> u64
     ensures { result ≡ hardware_instance p.now }
 {
     if fields::read32(p, 0) == 1 {
-        return 0;
+        0
+    } else {
+        fields::read64(p, 32)
     }
-    fields::read64(p, 32)
 }
 
 // Those of a payload p.
@@ -79,7 +80,10 @@ pub fn values_of(s: &[u8], k: usize) -> Result<Values, Refusal>
 pub fn type_guid(s: &[u8], k: usize) -> [u8; 16]
     ensures { result ≡ type_guid_of s.now (located s.now k) }
 {
-    values_of(s, k).map_or([0; 16], |v| v.guid)
+    match values_of(s, k) {
+        Ok(v) => v.guid,
+        Err(_) => [0; 16],
+    }
 }
 
 // The image index of payload item k.
