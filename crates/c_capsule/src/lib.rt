@@ -7,23 +7,20 @@ ghost use Rattle.capsule_check.specs.Verdict.{verdict};
 ghost use Rattle.capsule_counts.specs.Count.{driver_count, payload_count};
 ghost use Rattle.c_reply.specs.Replied.{replied_by};
 
-use refusal_order::Verdict;
-
 // Checks a whole capsule (C1 to C16). Returns 0 and sets how many drivers and payloads it has (C25); or returns the
 // refusal, N10 to N15, and sets nothing (X5). The array of two has the layout of C's struct meanderpeg_counts.
 // The clause asks the verdict twice: in `replied_by`, and in what it gives, whose branch for a refusal is dead there.
+#[tactic(auto, unfolding(refusal_order::specs::Decide::reply))]
 #[unsafe(no_mangle)]
 pub extern "C" fn meanderpeg_capsule_check(s: &[u8], counts: &mut [usize; 2]) -> u32
     ensures { (result, counts.new) ≡ replied_by (verdict s.now)
         (driver_count s.now ∷ payload_count s.now ∷ []) counts.old }
 {
-    let found = capsule_counts::counts_of(s);
-    let checked = found.verdict;
-    match checked {
-        Verdict::Passed => {
+    match capsule_counts::counts_of(s) {
+        Ok(found) => {
             *counts = [found.drivers, found.payloads];
             0
         }
-        Verdict::Refused(why) => why.number(),
+        Err(why) => why.number(),
     }
 }

@@ -10,8 +10,6 @@ ghost use Rattle.fields.specs.Part.{start_and_length};
 ghost use Rattle.capsule_parts.specs.Parts.{image_part};
 ghost use Rattle.c_reply.specs.Replied.{replied_by};
 
-use refusal_order::Verdict;
-
 // Returns 0 and sets where the image of item k lies (C19): start and length (X6); or returns the refusal, N10 to N16,
 // and sets nothing (X5). The array of two has the layout of C's struct meanderpeg_part.
 // The clause asks the verdict twice: in `replied_by`, and in what it gives, whose branch for a refusal is dead there.
@@ -20,13 +18,11 @@ pub extern "C" fn meanderpeg_capsule_image(s: &[u8], k: usize, part: &mut [usize
     ensures { (result, part.new) ≡ replied_by (item_verdict s.now k)
         (start_and_length s.now (image_part s.now (located s.now k))) part.old }
 {
-    let places = capsule_parts::places_of(s, k);
-    let verdict = places.verdict;
-    match verdict {
-        Verdict::Passed => {
+    match capsule_parts::places_of(s, k) {
+        Ok(places) => {
             *part = [places.image, places.code - places.image];
             0
         }
-        Verdict::Refused(why) => why.number(),
+        Err(why) => why.number(),
     }
 }

@@ -10,7 +10,7 @@ ghost use Rattle.fields.specs.Part.{start_and_length};
 ghost use Rattle.capsule_items.specs.Items.{item_part};
 ghost use Rattle.c_reply.specs.Replied.{replied_by};
 
-use capsule_check::Item;
+use capsule_check::{Item, locate};
 
 // Sets the part from start up to, not including, end.
 fn set_part(part: &mut [usize; 2], start: usize, end: usize) -> u32
@@ -24,15 +24,15 @@ fn set_part(part: &mut [usize; 2], start: usize, end: usize) -> u32
 // Returns 0 and sets where the whole item k lies (C18): start and length (X6); or returns the refusal, N10 to N16, and
 // sets nothing (X5). The array of two has the layout of C's struct meanderpeg_part.
 // The clause asks the verdict twice: in `replied_by`, and in what it gives, whose branch for a refusal is dead there.
+#[tactic(auto, unfolding(refusal_order::specs::Decide::reply), using(capsule_items::proofs::Items::item_told))]
 #[unsafe(no_mangle)]
 pub extern "C" fn meanderpeg_capsule_item(s: &[u8], k: usize, part: &mut [usize; 2]) -> u32
     ensures { (result, part.new) ≡ replied_by (item_verdict s.now k)
         (start_and_length s.now (item_part (located s.now k))) part.old }
 {
-    let found = capsule_check::locate(s, k);
-    match found {
-        Item::Driver { start, end } => set_part(part, start, end),
-        Item::Payload { start, end } => set_part(part, start, end),
-        Item::Refused(why) => why.number(),
+    match locate(s, k) {
+        Ok(Item::Driver { start, end }) => set_part(part, start, end),
+        Ok(Item::Payload { start, end }) => set_part(part, start, end),
+        Err(why) => why.number(),
     }
 }

@@ -10,44 +10,41 @@ ghost use Rattle.capsule_check.specs.Item.{located};
 ghost use Rattle.capsule_values.specs.Shown.{type_guid_of, image_index_of, hardware_instance_of};
 ghost use Rattle.c_reply.specs.Replied.{replied_by};
 
-use refusal_order::Verdict;
-
 // The type GUID of item k, zeros of a driver (C21).
+#[tactic(auto, unfolding(refusal_order::specs::Decide::reply))]
 #[unsafe(no_mangle)]
 pub extern "C" fn meanderpeg_capsule_type_guid(s: &[u8], k: usize, guid: &mut [u8; 16]) -> u32
     ensures { (result, guid.new) ≡ replied_by (item_verdict s.now k)
         (type_guid_of s.now (located s.now k)) guid.old }
 {
-    let values = capsule_values::values_of(s, k);
-    let verdict = values.verdict;
-    match verdict {
-        Verdict::Passed => {
+    match capsule_values::values_of(s, k) {
+        Ok(values) => {
             let shown = values.guid;
             *guid = shown;
             0
         }
-        Verdict::Refused(why) => why.number(),
+        Err(why) => why.number(),
     }
 }
 
 // Its image index, 0 of a driver.
+#[tactic(auto, unfolding(refusal_order::specs::Decide::reply))]
 #[unsafe(no_mangle)]
 pub extern "C" fn meanderpeg_capsule_image_index(s: &[u8], k: usize, index: &mut u8) -> u32
     ensures { (result, index.new) ≡ replied_by (item_verdict s.now k)
         (image_index_of s.now (located s.now k)) index.old }
 {
-    let values = capsule_values::values_of(s, k);
-    let verdict = values.verdict;
-    match verdict {
-        Verdict::Passed => {
+    match capsule_values::values_of(s, k) {
+        Ok(values) => {
             *index = values.index;
             0
         }
-        Verdict::Refused(why) => why.number(),
+        Err(why) => why.number(),
     }
 }
 
 // Its hardware instance, 0 of a driver and in version 1.
+#[tactic(auto, unfolding(refusal_order::specs::Decide::reply))]
 #[unsafe(no_mangle)]
 pub extern "C" fn meanderpeg_capsule_hardware_instance(
     s: &[u8],
@@ -57,13 +54,11 @@ pub extern "C" fn meanderpeg_capsule_hardware_instance(
     ensures { (result, instance.new) ≡ replied_by (item_verdict s.now k)
         (hardware_instance_of s.now (located s.now k)) instance.old }
 {
-    let values = capsule_values::values_of(s, k);
-    let verdict = values.verdict;
-    match verdict {
-        Verdict::Passed => {
+    match capsule_values::values_of(s, k) {
+        Ok(values) => {
             *instance = values.instance;
             0
         }
-        Verdict::Refused(why) => why.number(),
+        Err(why) => why.number(),
     }
 }

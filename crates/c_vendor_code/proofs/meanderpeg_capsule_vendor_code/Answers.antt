@@ -1,23 +1,19 @@
 -- `meanderpeg_capsule_vendor_code` meets its contract: the vendor code lies in the capsule. Assumes nothing.
 use Rattle.refusal_order.specs.Decide.{reply}
-use Rattle.fields.specs.Part.{Lies}
 use Rattle.fields.proofs.Part.{part_length}
-use Rattle.capsule_parts.specs.Parts.{vendor_code_told}
-use Rattle.capsule_parts.proofs.Parts.{parts_lie}
+use Rattle.capsule_parts.proofs.Parts.{vendor_code_lies}
 use Rattle.c_vendor_code.proofs.meanderpeg_capsule_vendor_code.Goals as goal
 
 pub overflow_sub-part : goal.overflow_sub-part
-overflow_sub-part c =
-    let lies : Lies c.args.s.now (vendor_code_told c.places_of-places.result) = let a = c.args in rw (← c.places_of-places.ensures.1) at (parts_lie a.s.now a.k).vendor_code in
-    lies.ordered
+overflow_sub-part c = (vendor_code_lies c.args.s.now c.args.k c.in-Ok.places c.in-Ok.ensures.placed.1).0
 
-pub returns-in-Passed : goal.returns-in-Passed
+pub returns-in-Ok : goal.returns-in-Ok
 unfolding reply
-returns-in-Passed c =
-    let lies : Lies c.args.s.now (vendor_code_told c.places_of-places.result) = let a = c.args in rw (← c.places_of-places.ensures.1) at (parts_lie a.s.now a.k).vendor_code in
-    let e = c.places_of-places.ensures in
-    rw (← e.1, ← e.2, c.in-Passed.is, part_length _ _ _ lies.inside)
+returns-in-Ok c =
+    let e = c.in-Ok.ensures in
+    let l = vendor_code_lies c.args.s.now c.args.k c.in-Ok.places e.placed.1 in
+    rw (← e.judged, ← e.placed.1, part_length c.args.s.now c.in-Ok.places.code c.in-Ok.places.end l.1)
 
-pub returns-in-Refused : goal.returns-in-Refused
+pub returns-in-Err : goal.returns-in-Err
 unfolding reply
-returns-in-Refused c = rw (← c.places_of-places.ensures.2, c.in-Refused.is, c.number.ensures)
+returns-in-Err c = rw (← c.in-Err.ensures.judged, c.number.ensures)
