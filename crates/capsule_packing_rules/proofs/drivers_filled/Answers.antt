@@ -1,19 +1,12 @@
--- `drivers_filled` meets its contract: every driver passed has a byte. Assumes nothing.
-use mathlib.Core.Path.{sym, ap, ◌∙◌}
-use mathlib.Core.Bool.{not}
-use Prim.Native.Nat.{◌-◌}
-use borrow.Author.Tests.{eq-eqb, ne_eqb}
-use Rattle.capsule_packing_rules.proofs.Loops.{passed_none, passed_more, passed_stop, passed_all}
+-- `drivers_filled` meets its contract. Assumes nothing.
+use mathlib.Core.Path.{refl}
+use Rattle.std.proofs.Common.{rules, tests}
+use Rattle.capsule_packing_rules.specs.Rules.{driver_filled}
+use Rattle.capsule_packing_rules.proofs.Every.{all_from_range}
 use Rattle.capsule_packing_rules.proofs.drivers_filled.Goals as goal
 
-pub loop-k-init : goal.loop-k-init
-loop-k-init c = passed_none
-
-pub returns-then-read64-eq0 : goal.returns-then-read64-eq0
-returns-then-read64-eq0 c = passed_stop c.loop-k.invariant c.loop-k-test.true (ap not (eq-eqb _ _ (sym c.read64.ensures ∙ c.if-read64-eq0.true)))
-
-pub loop-k-preserved : goal.loop-k-preserved
-loop-k-preserved c = passed_more c.loop-k.invariant c.loop-k-test.true (ap not (ne_eqb _ _ (λ e. c.if-read64-eq0.false (c.read64.ensures ∙ e))))
-
 pub returns : goal.returns
-returns c = passed_all c.loop-k.invariant c.loop-k-test.false
+returns c =
+    let x = c.args.lending.now in
+    rw (← c.drivers_in.ensures)
+    (all_from_range (driver_filled x.driver_table.now) c.drivers_in.result _ _ c.all.result refl c.all.ensures.ran (λ x b q k. search (rules, tests)))

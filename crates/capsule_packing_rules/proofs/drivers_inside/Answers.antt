@@ -1,17 +1,12 @@
--- `drivers_inside` meets its contract: every part passed lies in the slice. Assumes nothing.
-use mathlib.Core.Path.{sym, ◌∙◌}
-use Prim.Native.Nat.{◌-◌}
-use Rattle.capsule_packing_rules.proofs.Loops.{passed_none, passed_more, passed_stop, passed_all}
+-- `drivers_inside` meets its contract. Assumes nothing.
+use mathlib.Core.Path.{refl}
+use Rattle.std.proofs.Common.{rules, tests}
+use Rattle.capsule_packing_rules.specs.Rules.{driver_inside}
+use Rattle.capsule_packing_rules.proofs.Every.{all_from_range}
 use Rattle.capsule_packing_rules.proofs.drivers_inside.Goals as goal
 
-pub loop-k-init : goal.loop-k-init
-loop-k-init c = passed_none
-
-pub returns-then-not-part_inside : goal.returns-then-not-part_inside
-returns-then-not-part_inside c = passed_stop c.loop-k.invariant c.loop-k-test.true (sym c.part_inside.ensures ∙ c.if-not-part_inside.true)
-
-pub loop-k-preserved : goal.loop-k-preserved
-loop-k-preserved c = passed_more c.loop-k.invariant c.loop-k-test.true (sym c.part_inside.ensures ∙ c.if-not-part_inside.false)
-
 pub returns : goal.returns
-returns c = passed_all c.loop-k.invariant c.loop-k-test.false
+returns c =
+    let x = c.args.lending.now in
+    rw (← c.drivers_in.ensures)
+    (all_from_range (driver_inside x.drivers.now x.driver_table.now) c.drivers_in.result _ _ c.all.result refl c.all.ensures.ran (λ x b q k. search (rules, tests)))
