@@ -29,11 +29,8 @@ fn drivers_inside(lending: &Lending) -> bool
     ensures { result ≡ all (driver_inside lending.now.drivers.now lending.now.driver_table.now)
         (drivers_in lending.now.driver_table.now) }
 {
-    (0..lending.drivers_in()).all(|k| part_inside(
-        lending.driver_table,
-        DRIVER_ENTRY * k,
-        lending.drivers.len(),
-    ))
+    let table = lending.driver_table;
+    (0..lending.drivers_in()).all(|k| part_inside(table, DRIVER_ENTRY * k, lending.drivers.len()))
 }
 
 // N51, for images and vendor codes.
@@ -43,12 +40,9 @@ fn payloads_inside(lending: &Lending) -> bool
 {
     let table = lending.payload_table;
     (0..lending.payloads_in()).all(|j| {
-        part_inside(table, PAYLOAD_ENTRY * j + IMAGE_AT, lending.images.len())
-            && part_inside(
-                table,
-                PAYLOAD_ENTRY * j + VENDOR_CODE_AT,
-                lending.codes.len(),
-            )
+        let entry = PAYLOAD_ENTRY * j;
+        part_inside(table, entry + IMAGE_AT, lending.images.len())
+            && part_inside(table, entry + VENDOR_CODE_AT, lending.codes.len())
     })
 }
 
@@ -65,10 +59,8 @@ fn versions_right(lending: &Lending) -> bool
     ensures { result ≡ all (version_at_right lending.now.payload_table.now)
         (payloads_in lending.now.payload_table.now) }
 {
-    (0..lending.payloads_in()).all(|j| version_right(read32(
-        lending.payload_table,
-        PAYLOAD_ENTRY * j,
-    )))
+    let table = lending.payload_table;
+    (0..lending.payloads_in()).all(|j| version_right(read32(table, PAYLOAD_ENTRY * j)))
 }
 
 // N54.
@@ -78,7 +70,8 @@ fn instances_right(lending: &Lending) -> bool
 {
     let table = lending.payload_table;
     (0..lending.payloads_in()).all(|j| {
-        read32(table, PAYLOAD_ENTRY * j) != 1 || read64(table, PAYLOAD_ENTRY * j + INSTANCE_AT) == 0
+        let entry = PAYLOAD_ENTRY * j;
+        read32(table, entry) != 1 || read64(table, entry + INSTANCE_AT) == 0
     })
 }
 
