@@ -112,7 +112,3 @@ module _ (x : Lent) (n room : ℕ) (all : n ≡ items_of (contents_of x)) (ok : 
       let one = put_next s 0 36 (front_of x) offsets (omega arith) (omega arith) p q in
       put_next s 0 (36 + 8 * n) (front_of x ++ offsets) items (omega arith) (omega arith) one t
       ∙ ap (λ (l : List ℕ). put s 0 l) capsule_is
-
--- there may be more room
-pub room_more : {x : Lent} {room new : ℕ} → room ≤ new → Packable x room → Packable x new
-room_more h ok = record { few = ok.few; parts = ok.parts; small = ok.small; fits = omega (arith, ok.fits) }

@@ -59,6 +59,7 @@ fn put_part(slice: &[u8], table: &[u8], entry: usize, at: usize, out: &mut [u8])
 
 // Puts the header of payload j at `at`. The index goes in as a number of 32 bits, so that the reserved bytes behind it
 // are 0.
+#[tactic(auto, using(crate::proofs::Payloads::size_least, crate::proofs::Payloads::size_more))]
 fn put_payload_header(lending: &Lending, j: usize, at: usize, out: &mut [u8])
     requires { PayloadReady (given lending.now) j at (length out.old) }
     ensures { out.new ≡ put out.old at
@@ -99,7 +100,13 @@ fn put_item(lending: &Lending, k: usize, at: usize, out: &mut [u8])
 {
     let first = lending.drivers_in();
     if k < first {
-        put_part(lending.drivers, lending.driver_table, DRIVER_ENTRY * k, at, out);
+        put_part(
+            lending.drivers,
+            lending.driver_table,
+            DRIVER_ENTRY * k,
+            at,
+            out,
+        );
     } else {
         put_payload(lending, k - first, at, out);
     }

@@ -5,19 +5,13 @@ use lib.ListN.{length}
 use Rattle.capsule_contents.specs.Contents.{items_of, item_bytes}
 use Rattle.capsule_contents.specs.Given.{given}
 use Rattle.capsule_contents.specs.Lent.{contents_of}
-use Rattle.capsule_packed_items.proofs.Packing.{list_fits, capsule_put, room_more}
+use Rattle.capsule_packed_items.proofs.Packing.{list_fits, capsule_put}
 use Rattle.capsule_packed_items.proofs.put_capsule.Goals as goal
 
 pub put_front-requires : goal.put_front-requires
 put_front-requires c =
     let x = given c.args.lending.now in
     omega (arith, list_fits x (items_of (contents_of x)) (length c.args.out.now) refl c.requires.1)
-
-pub put_offsets-requires : goal.put_offsets-requires
-put_offsets-requires c = room_more (omega arith) c.requires.1
-
-pub put_items-requires : goal.put_items-requires
-put_items-requires c = room_more (omega arith) c.requires.1
 
 pub returns : goal.returns
 unfolding item_bytes

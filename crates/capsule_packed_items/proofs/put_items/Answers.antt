@@ -1,7 +1,6 @@
 -- `put_items` meets its contract. The loop's invariant: the items below k are put, and `at` is where item k starts.
 -- Assumes nothing.
 use Prim.Native.Nat.{◌+◌, ◌*◌, ◌≤◌}
-use mathlib.Core.Path.{◌≡◌}
 use native.Mathlib.Numerals.{add-one}
 use native.Mathlib.Omega.{arith}
 use lib.ListN.{length}
@@ -67,8 +66,3 @@ loop-k-preserved c =
       joined_next out (36 + 8 * n) g k (sum k (size_in x)) (items_long x n room e c.requires k (omega (arith, low))) fits
           c.loop-k.invariant.1 (rw c.loop-k.invariant.0 at c.put_item.ensures),
     )
-
-pub returns : goal.returns
-returns c =
-    let z : c.loop-k.k ≡ c.items-items.result = omega (arith, c.loop-k-test.false, c.loop-k.auto.k-end) in
-    rw (← c.items-items.ensures) (rw z at c.loop-k.invariant.1)

@@ -1,5 +1,5 @@
 -- `put_payload` meets its contract: the header, then the image and the vendor code behind it. Assumes nothing.
-use mathlib.Core.Path.{◌≡◌, refl, ◌∙◌, ap}
+use mathlib.Core.Path.{refl, ◌∙◌, ap}
 use native.Mathlib.Omega.{arith}
 use Rattle.capsule_payloads.specs.Payload.{header_length}
 use Rattle.capsule_contents.specs.Given.{given}
