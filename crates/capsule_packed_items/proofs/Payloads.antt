@@ -22,7 +22,8 @@ use Rattle.capsule_packed_items.specs.Step.{PayloadReady}
 use Rattle.capsule_packed_items.proofs.Puts.{put_next, head_of, head_put, head_whole, head_more}
 
 module _ (table : List ℕ) (j : ℕ) where
-  pub size_is : payload_size table j ≡ header_length (version_given table j) + length_at table (image_at j) + length_at table (vendor_code_at j)
+  pub size_is : payload_size table j
+      ≡ header_length (version_given table j) + length_at table (image_at j) + length_at table (vendor_code_at j)
   unfolding payload_size
   size_is = refl
 

@@ -32,7 +32,8 @@ overflow_add-offset-in-loop-k c =
     let n = c.items-items.result in
     let low = sum_low x n (length c.args.out.now) c.items-items.ensures c.requires in
     let added = uncapped n c.loop-k.k _ (size_in x) c.loop-k-test.true low c.item_size-offset.ensures in
-    omega (arith, added, sum_each n c.loop-k.k (size_in x) c.loop-k-test.true, low, c.items-items.ensures, c.requires.few, c.loop-k.invariant.0)
+    let part = sum_each n c.loop-k.k (size_in x) c.loop-k-test.true in
+    omega (arith, added, part, low, c.items-items.ensures, c.requires.few, c.loop-k.invariant.0)
 
 pub loop-k-preserved : goal.loop-k-preserved
 loop-k-preserved c =
