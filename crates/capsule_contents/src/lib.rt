@@ -95,17 +95,15 @@ pub fn payload_size(table: &[u8], j: usize) -> usize
 }
 
 // How many bytes item k has, drivers first, or the cap.
-#[tactic(auto, unfolding(crate::specs::Sizes::item_size))]
+#[tactic(auto, unfolding(crate::specs::Sizes::cap, crate::specs::Sizes::item_size))]
 pub fn item_size(lending: &Lending, k: usize) -> usize
     requires { k < items_of (contents_of (given lending.now)) }
     ensures { result ≡ cap (item_size lending.now.driver_table.now lending.now.payload_table.now k) }
 {
     let first = lending.drivers_in();
     if k < first {
-        return add_capped(
-            0,
-            read64(lending.driver_table, DRIVER_ENTRY * k + 8) as usize,
-        );
+        (read64(lending.driver_table, DRIVER_ENTRY * k + 8) as usize).min(SIZE_CAP)
+    } else {
+        payload_size(lending.payload_table, k - first)
     }
-    payload_size(lending.payload_table, k - first)
 }

@@ -1,4 +1,4 @@
--- `drivers_filled` meets its contract. Assumes nothing.
+-- `drivers_filled` meets its contract: the test holds of every one. Assumes nothing.
 use mathlib.Core.Path.{refl}
 use Rattle.std.proofs.Common.{rules, tests}
 use Rattle.capsule_packing_rules.specs.Rules.{driver_filled}
@@ -8,5 +8,6 @@ use Rattle.capsule_packing_rules.proofs.drivers_filled.Goals as goal
 pub returns : goal.returns
 returns c =
     let x = c.args.lending.now in
+    let test = driver_filled x.driver_table.now in
     rw (← c.drivers_in.ensures)
-    (all_from_range (driver_filled x.driver_table.now) c.drivers_in.result _ _ c.all.result refl c.all.ensures.ran (λ x b q k. search (rules, tests)))
+    (all_from_range test c.drivers_in.result _ _ c.all.result refl c.all.ensures.ran (λ x b q k. search (rules, tests)))
