@@ -2,8 +2,8 @@
 use mathlib.Core.Path.{◌≡◌, refl, sym, ap, ◌∙◌}
 use mathlib.Core.Bool.{Bool, true, false, ◌&&◌, and-false}
 use mathlib.Core.List.{List}
-use mathlib.Core.Logic.{◌⊎◌, ⊎_elim}
-use Prim.Native.Nat.{ℕ, zero, suc, ◌+◌, ◌-◌, ◌*◌, ◌<◌, ◌≤◌}
+use mathlib.Core.Logic.{⊎_elim}
+use Prim.Native.Nat.{ℕ, zero, suc, ◌+◌, ◌*◌, ◌<◌, ◌≤◌}
 use native.Mathlib.Numerals.{add-one}
 use native.Mathlib.Omega.{arith}
 use borrow.Author.Tests.{leb-true, ltb-true, eqb-true, lt-leb, le-ltb}
@@ -92,6 +92,9 @@ module _ (b : List ℕ) where
         let y = (both (leb 8 (length b) && eqb (body_version b) 1) (leb (items b) 64) x).0 in
         eqb-true (body_version b) 1 (both (leb 8 (length b)) (eqb (body_version b) 1) y).1
 
+    pub counts_fit : 8 ≤ length b
+    counts_fit = leb-true 8 (length b) parts.0
+
     pub few_items : items b ≤ 64
     few_items = leb-true (items b) 64 parts.1
 
@@ -117,7 +120,7 @@ module _ (b : List ℕ) where
     pub list_fits : list_end b ≤ length b
     list_fits =
         ⊎_elim
-        (λ none. omega (arith, leb-true 8 (length b) parts.0))
+        (λ none. omega (arith, counts_fit))
         (λ some. omega (arith, offset_low 0 (omega arith), offset_high 0 (omega arith)))
         (le_or_lt (items b) 0)
 

@@ -2,32 +2,43 @@
 // that answers what its definition says.
 #![tactic(auto)]
 
-ghost use Rattle.std.specs.Prelude.{◌≡◌, true, ◌+◌, ◌*◌, ◌<◌, ◌≤◌, length};
-ghost use Rattle.capsule_body.specs.Body.{all, items, offset, offset_right, body_right, item_end};
+ghost use Rattle.std.specs.Prelude.{◌≡◌, true, ◌+◌, ◌*◌, ◌^◌, ◌<◌, ◌≤◌, length};
+ghost use Rattle.capsule_body.specs.Body.{all, drivers, payloads, items, offset, offset_right, body_right, item_end};
 ghost use Rattle.capsule_body.specs.Body.{item as item_bytes};
 
 // How many items there are at most (C9).
 pub const ITEM_LIMIT: usize = 64;
 
+// How many drivers the body says it has (C8).
+#[tactic(auto, unfolding(crate::specs::Body::drivers))]
+pub fn drivers(b: &[u8]) -> usize
+    requires { 8 ≤ length b.now }
+    ensures { (result ≡ drivers b.now) × (result < 2 ^ 16) }
+{
+    usize::from(fields::read16(b, 4))
+}
+
+// How many payloads, as above.
+#[tactic(auto, unfolding(crate::specs::Body::payloads))]
+pub fn payloads(b: &[u8]) -> usize
+    requires { 8 ≤ length b.now }
+    ensures { (result ≡ payloads b.now) × (result < 2 ^ 16) }
+{
+    usize::from(fields::read16(b, 6))
+}
+
 // N14, for one offset of n, in a body that holds the list.
+#[tactic(auto, unfolding(crate::specs::Body::offset_right, crate::specs::Body::offset, crate::specs::Body::rises))]
 pub fn offset_right(b: &[u8], n: usize, k: usize) -> bool
     requires { (n ≡ items b.now) × (n ≤ 64) × (k < n) × (8 + 8 * n ≤ length b.now) }
     ensures { result ≡ offset_right b.now k }
 {
     let at = fields::read64(b, 8 + 8 * k) as usize;
-    if at < 8 + 8 * n {
-        return false;
-    }
-    if b.len() <= at {
-        return false;
-    }
-    if k == 0 {
-        return true;
-    }
-    (fields::read64(b, 8 * k) as usize) < at
+    8 + 8 * n <= at && at < b.len() && (k == 0 || (fields::read64(b, 8 * k) as usize) < at)
 }
 
 // Where item k of n starts in the body.
+#[tactic(auto, unfolding(crate::specs::Body::offset), using(crate::proofs::Body::few_items, crate::proofs::Body::list_fits))]
 pub fn item_start(b: &[u8], n: usize, k: usize) -> usize
     requires { (body_right b.now ≡ true) × (n ≡ items b.now) × (k < n) }
     ensures { result ≡ offset b.now k }
@@ -36,14 +47,16 @@ pub fn item_start(b: &[u8], n: usize, k: usize) -> usize
 }
 
 // Where item k of n ends in the body.
+#[tactic(auto, unfolding(crate::specs::Body::item_end))]
 pub fn item_end(b: &[u8], n: usize, k: usize) -> usize
     requires { (body_right b.now ≡ true) × (n ≡ items b.now) × (k < n) }
     ensures { result ≡ item_end b.now k }
 {
     if k + 1 < n {
-        return item_start(b, n, k + 1);
+        item_start(b, n, k + 1)
+    } else {
+        b.len()
     }
-    b.len()
 }
 
 // The offsets of all n items.
@@ -51,37 +64,23 @@ pub fn offsets_right(b: &[u8], n: usize) -> bool
     requires { (8 ≤ length b.now) × (n ≡ items b.now) × (n ≤ 64) }
     ensures { result ≡ all (offset_right b.now) (items b.now) }
 {
-    if b.len() < 8 + 8 * n {
-        return false;
-    }
-    let mut k = 0;
-    while k < n {
-        if !offset_right(b, n, k) {
-            return false;
-        }
-        k += 1;
-    }
-    true
+    8 + 8 * n <= b.len() && (0..n).all(|k| offset_right(b, n, k))
 }
 
 // The body, its payloads aside: N14.
+#[tactic(auto, unfolding(crate::specs::Body::body_right, crate::specs::Body::body_version))]
 pub fn body_right(b: &[u8]) -> bool
     ensures { result ≡ body_right b.now }
 {
-    if b.len() < 8 {
+    if b.len() < 8 || fields::read32(b, 0) != 1 {
         return false;
     }
-    if fields::read32(b, 0) != 1 {
-        return false;
-    }
-    let n = (fields::read16(b, 4) as usize) + (fields::read16(b, 6) as usize);
-    if 64 < n {
-        return false;
-    }
-    offsets_right(b, n)
+    let n = drivers(b) + payloads(b);
+    n <= ITEM_LIMIT && offsets_right(b, n)
 }
 
 // The bytes of item k of n.
+#[tactic(auto, unfolding(crate::specs::Body::item), using(crate::proofs::Body::item_in))]
 pub fn item_bytes(b: &[u8], n: usize, k: usize) -> &[u8]
     requires { (body_right b.now ≡ true) × (n ≡ items b.now) × (k < n) }
     ensures { result.now ≡ item_bytes b.now k }

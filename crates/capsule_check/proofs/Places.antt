@@ -10,37 +10,37 @@ use lib.ListN.{length, drop}
 use lib.Seq.{drop-drop}
 use Rattle.refusals.specs.declared.Refusal.{Refusal}
 use Rattle.refusals.specs.declared.Refusal.TheVariants.{NoItem}
-use Rattle.capsule_header.specs.Header.{header_size, body}
+use Rattle.fields.specs.Number.{le}
+use Rattle.capsule_header.specs.Header.{header_size, sizes_right, body}
 use Rattle.capsule_payloads.specs.Payload.{payload_right}
 use Rattle.fields.specs.Part.{part}
-use Rattle.capsule_body.specs.Body.{drivers, payloads, items, offset, item_end}
+use Rattle.capsule_body.specs.Body.{drivers, payloads, items, offset, item_end, body_right}
 use Rattle.capsule_payloads.specs.Payload.{payload_at_right, payloads_right}
 use Rattle.capsule_body.specs.Body.{item as item_bytes}
-use Rattle.capsule_header.proofs.Header.{body_length}
-use Rattle.capsule_body.proofs.Body.{all_at, item_in}
-use Rattle.capsule_check.specs.Verdict.{unless, after, verdict, item_verdict}
+use Rattle.capsule_header.proofs.Header.{header_in, body_length}
+use Rattle.capsule_body.proofs.Body.{all_at, counts_fit, item_in}
+use Rattle.capsule_check.specs.Verdict.{verdict_of, unless, after, verdict, item_verdict}
 use Rattle.capsule_check.specs.Item.{item_start_in, item_end_in, item_of, found, located}
-use Rattle.refusal_order.specs.declared.Verdict.{Verdict}
-use Rattle.refusal_order.specs.declared.Verdict.TheVariants.{Passed}
-use Rattle.refusal_order.specs.declared.Verdict.TheVariants as Verdict
+use Rattle.std.specs.Prelude.{Result, Ok, Err}
+use Rattle.refusal_order.specs.Decide.{Verdict}
 use Rattle.capsule_check.specs.declared.Item.{Item}
-use Rattle.capsule_check.specs.declared.Item.TheVariants.{Driver, Payload, Refused}
+use Rattle.capsule_check.specs.declared.Item.TheVariants.{Driver, Payload}
 use Rattle.capsule_check.proofs.PassedCheck.{faultless, Sound}
 
 module _ (s : List ℕ) (k : ℕ) where
-  pub located_refused : (r : Refusal) → verdict s ≡ Verdict.Refused r → located s k ≡ Refused r
+  pub located_refused : (r : Refusal) → verdict s ≡ Err r → located s k ≡ Err r
   unfolding located item_verdict
   located_refused r e = rw e
 
-  pub located_none : verdict s ≡ Passed → items (body s) ≤ k → located s k ≡ Refused NoItem
+  pub located_none : verdict s ≡ Ok tt → items (body s) ≤ k → located s k ≡ Err NoItem
   unfolding located item_verdict
   located_none e h = rw (e, le-ltb k (items (body s)) h)
 
-  pub located_driver : verdict s ≡ Passed → k < items (body s) → k < drivers (body s) → located s k ≡ Driver (item_start_in s k) (item_end_in s k)
+  pub located_driver : verdict s ≡ Ok tt → k < items (body s) → k < drivers (body s) → located s k ≡ Ok (Driver (item_start_in s k) (item_end_in s k))
   unfolding located item_verdict
   located_driver e h d = rw (e, lt-ltb k (items (body s)) h, lt-ltb k (drivers (body s)) d)
 
-  pub located_payload : verdict s ≡ Passed → k < items (body s) → drivers (body s) ≤ k → located s k ≡ Payload (item_start_in s k) (item_end_in s k)
+  pub located_payload : verdict s ≡ Ok tt → k < items (body s) → drivers (body s) ≤ k → located s k ≡ Ok (Payload (item_start_in s k) (item_end_in s k))
   unfolding located item_verdict
   located_payload e h d = rw (e, lt-ltb k (items (body s)) h, le-ltb k (drivers (body s)) d)
 
@@ -66,26 +66,24 @@ module _ (s : List ℕ) (k : ℕ) (sound : Sound s) (lt : k < items (body s)) wh
       rw (n, drop-drop (offset b k) h s)
 
 -- ---- the definition, turned round: what an answer says of the capsule
--- the verdict that an answer carries
-abbrev pub told : Item → Verdict
-told (Driver a e) = Passed
-told (Payload a e) = Passed
-told (Refused r) = Verdict.Refused r
-
-pub told_judged : (s : List ℕ) (k : ℕ) → told (located s k) ≡ item_verdict s k
+pub told_judged : (s : List ℕ) (k : ℕ) → verdict_of (located s k) ≡ item_verdict s k
 unfolding located
 told_judged s k = go (item_verdict s k) (ltb k (drivers (body s)))
   where
-    go : (v : Verdict) (d : Bool) → told (found v (item_of d (item_start_in s k) (item_end_in s k))) ≡ v
-    go Passed true = refl
-    go Passed false = refl
-    go (Verdict.Refused r) d = refl
+    go : (v : Verdict) (d : Bool) → verdict_of (found v (item_of d (item_start_in s k) (item_end_in s k))) ≡ v
+    go (Ok x) true = refl
+    go (Ok x) false = refl
+    go (Err r) d = refl
+
+pub refused_located : (s : List ℕ) (k : ℕ) (r : Refusal) → item_verdict s k ≡ Err r → located s k ≡ Err r
+unfolding located
+refused_located s k r e = rw e
 
 -- what holds of an item that was found: it lies in the capsule, and a payload is right
-unfoldable pub Holds : List ℕ → Item → Type 0
-Holds s (Driver a e) = Inside s a e
-Holds s (Payload a e) = Inside s a e × (payload_right (part s a e) ≡ true)
-Holds s (Refused r) = Unit
+unfoldable pub Holds : List ℕ → Result Item Refusal → Type 0
+Holds s (Ok (Driver a e)) = Inside s a e
+Holds s (Ok (Payload a e)) = Inside s a e × (payload_right (part s a e) ≡ true)
+Holds s (Err r) = Unit
 
 payload_right_lem : (s : List ℕ) (k : ℕ) → Sound s → k < items (body s) → drivers (body s) ≤ k → payload_right (part s (item_start_in s k) (item_end_in s k)) ≡ true
 unfolding payloads_right payload_at_right
@@ -99,16 +97,49 @@ pub holds : (s : List ℕ) (k : ℕ) → Holds s (located s k)
 unfolding located item_verdict Holds
 holds s k = go (verdict s) refl
   where
-    kinds : Sound s → k < items (body s) → (d : Bool) → ltb k (drivers (body s)) ≡ d → Holds s (item_of d (item_start_in s k) (item_end_in s k))
+    kinds : Sound s → k < items (body s) → (d : Bool) → ltb k (drivers (body s)) ≡ d → Holds s (Ok (item_of d (item_start_in s k) (item_end_in s k)))
     kinds sound lt true q = item_inside s k sound lt
     kinds sound lt false q = (item_inside s k sound lt, payload_right_lem s k sound lt (ltb-false k (drivers (body s)) q))
 
     numbers : Sound s → (t : Bool) → ltb k (items (body s)) ≡ t
-        → Holds s (found (unless t NoItem Passed) (item_of (ltb k (drivers (body s))) (item_start_in s k) (item_end_in s k)))
+        → Holds s (found (unless t NoItem (Ok tt)) (item_of (ltb k (drivers (body s))) (item_start_in s k) (item_end_in s k)))
     numbers sound true q = kinds sound (ltb-true k (items (body s)) q) (ltb k (drivers (body s))) refl
     numbers sound false q = tt
 
     go : (v : Verdict) → verdict s ≡ v
-        → Holds s (found (after v (unless (ltb k (items (body s))) NoItem Passed)) (item_of (ltb k (drivers (body s))) (item_start_in s k) (item_end_in s k)))
-    go Passed e = numbers (faultless s e) (ltb k (items (body s))) refl
-    go (Verdict.Refused r) e = tt
+        → Holds s (found (after v (unless (ltb k (items (body s))) NoItem (Ok tt))) (item_of (ltb k (drivers (body s))) (item_start_in s k) (item_end_in s k)))
+    go (Ok x) e = numbers (faultless s e) (ltb k (items (body s))) refl
+    go (Err r) e = tt
+
+-- ---- what `locate` asks of a faultless capsule, and gives
+module _ (s : List ℕ) (e : verdict s ≡ Ok tt) where
+  pub header_read : 28 ≤ length s
+  header_read = let h = header_in s (faultless s e).sizes in omega (arith, h.0, h.1)
+
+  pub sizes_known : sizes_right s ≡ true
+  sizes_known = (faultless s e).sizes
+
+  pub offsets_known : body_right (body s) ≡ true
+  offsets_known = (faultless s e).offsets
+
+  pub counts_read : 8 ≤ length (body s)
+  counts_read = counts_fit (body s) offsets_known
+
+  module _ (k : ℕ) (lt : k < items (body s)) where
+    pub start_in : le 4 s 16 + offset (body s) k < length s
+    unfolding item_start_in header_size
+    start_in = let i = item_inside s k (faultless s e) lt in omega (arith, i.some, i.within)
+
+    pub end_in : le 4 s 16 + item_end (body s) k ≤ length s
+    unfolding item_end_in header_size
+    end_in = (item_inside s k (faultless s e) lt).within
+
+    pub driver_in : k < drivers (body s) → located s k ≡ Ok (Driver (le 4 s 16 + offset (body s) k) (le 4 s 16 + item_end (body s) k))
+    unfolding item_start_in item_end_in header_size
+    driver_in d = located_driver s k e lt d
+
+    pub payload_in : drivers (body s) ≤ k → located s k ≡ Ok (Payload (le 4 s 16 + offset (body s) k) (le 4 s 16 + item_end (body s) k))
+    unfolding item_start_in item_end_in header_size
+    payload_in d = located_payload s k e lt d
+
+pub ruleset picks = (located_refused, located_none, header_read, sizes_known, offsets_known, counts_read, start_in, end_in, driver_in, payload_in)

@@ -6,72 +6,63 @@ ghost use Rattle.std.specs.Prelude.{◌≡◌};
 ghost use Rattle.capsule_check.specs.Verdict.{verdict};
 ghost use Rattle.capsule_check.specs.Item.{located};
 
-use capsule_body::{body_right, item_end, item_start};
+use capsule_body::{body_right, drivers, item_end, item_start, payloads};
 use capsule_header::{body_of, flags_right, guid_right, sizes_right};
 use capsule_payloads::payloads_right;
-use refusal_order::Verdict;
+use refusals::Refusal;
 
-// An item, by its start and its end in the capsule; or why there is none.
-#[derive(Clone, Copy)]
+// An item, by its start and its end in the capsule.
+#[derive(Clone, Copy, Debug, PartialEq, Eq)]
 pub enum Item {
     Driver { start: usize, end: usize },
     Payload { start: usize, end: usize },
-    Refused(refusals::Refusal),
 }
 
 // The check of a whole capsule: refusals 10 to 15, the lowest that applies.
-pub fn check(s: &[u8]) -> Verdict
+#[tactic(auto, unfolding(crate::specs::Verdict::verdict, capsule_header::specs::Header::flags))]
+pub fn check(s: &[u8]) -> Result<(), Refusal>
     ensures { result ≡ verdict s.now }
 {
     if s.len() < 28 {
-        return Verdict::Refused(refusals::Refusal::CapsuleShort);
+        return Err(Refusal::CapsuleShort);
     }
     if !sizes_right(s) {
-        return Verdict::Refused(refusals::Refusal::CapsuleSizes);
+        return Err(Refusal::CapsuleSizes);
     }
     if !flags_right(fields::read32(s, 20)) {
-        return Verdict::Refused(refusals::Refusal::CapsuleFlags);
+        return Err(Refusal::CapsuleFlags);
     }
     if !guid_right(s) {
-        return Verdict::Refused(refusals::Refusal::CapsuleGuid);
+        return Err(Refusal::CapsuleGuid);
     }
     let b = body_of(s);
     if !body_right(b) {
-        return Verdict::Refused(refusals::Refusal::CapsuleBody);
+        return Err(Refusal::CapsuleBody);
     }
     if !payloads_right(b) {
-        return Verdict::Refused(refusals::Refusal::CapsulePayload);
+        return Err(Refusal::CapsulePayload);
     }
-    Verdict::Passed
+    Ok(())
 }
 
-// Item k of a faultless capsule.
-fn pick(s: &[u8], k: usize) -> Item
-    requires { verdict s.now ≡ Verdict.Passed }
+// Where item k lies, after the check of the whole capsule; or the refusal, 16 too.
+#[tactic(auto, using(crate::proofs::Places::picks))]
+pub fn locate(s: &[u8], k: usize) -> Result<Item, Refusal>
     ensures { result ≡ located s.now k }
 {
+    check(s)?;
     let body = fields::read32(s, 16) as usize;
     let b = body_of(s);
-    let first = fields::read16(b, 4) as usize;
-    let n = first + (fields::read16(b, 6) as usize);
+    let first = drivers(b);
+    let n = first + payloads(b);
     if n <= k {
-        return Item::Refused(refusals::Refusal::NoItem);
+        return Err(Refusal::NoItem);
     }
     let start = body + item_start(b, n, k);
     let end = body + item_end(b, n, k);
     if k < first {
-        return Item::Driver { start, end };
-    }
-    Item::Payload { start, end }
-}
-
-// Where item k lies, after the check of the whole capsule; or the refusal, 16 too.
-pub fn locate(s: &[u8], k: usize) -> Item
-    ensures { result ≡ located s.now k }
-{
-    let checked = check(s);
-    match checked {
-        Verdict::Refused(r) => Item::Refused(r),
-        Verdict::Passed => pick(s, k),
+        Ok(Item::Driver { start, end })
+    } else {
+        Ok(Item::Payload { start, end })
     }
 }

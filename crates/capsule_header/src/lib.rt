@@ -10,30 +10,27 @@ pub const FMP_GUID: [u8; 16] = [
     0xed, 0xd5, 0xcb, 0x6d, 0x2d, 0xe8, 0x44, 0x4c, 0xbd, 0xa1, 0x71, 0x94, 0x19, 0x9a, 0xd9, 0x2a,
 ];
 
+// C4.
+const PERSIST: u32 = 0x0001_0000;
+
+const RESET: u32 = 0x0004_0000;
+
 // N11: HeaderSize at both ends, and CapsuleImageSize against the length given.
+#[tactic(auto, unfolding(crate::specs::Header::sizes_right, crate::specs::Header::header_size, crate::specs::Header::capsule_image_size))]
 pub fn sizes_right(s: &[u8]) -> bool
     requires { 28 ≤ length s.now }
     ensures { result ≡ sizes_right s.now }
 {
     let header = fields::read32(s, 16);
     let size = fields::read32(s, 24);
-    if header < 28 {
-        return false;
-    }
-    if size < header {
-        return false;
-    }
-    (size as usize) == s.len()
+    28 <= header && header <= size && (size as usize) == s.len()
 }
 
 // N12: the rule on flags.
 pub fn flags_right(flags: u32) -> bool
     ensures { result ≡ flags_right flags }
 {
-    if flags / 0x0004_0000 % 2 != 1 {
-        return true;
-    }
-    flags / 0x0001_0000 % 2 == 1
+    flags & RESET == 0 || flags & PERSIST != 0
 }
 
 // N13: the GUID of firmware management capsules.
@@ -41,8 +38,7 @@ pub fn guid_right(s: &[u8]) -> bool
     requires { 28 ≤ length s.now }
     ensures { result ≡ guid_right s.now }
 {
-    let guid = FMP_GUID;
-    fields::same_guid(s, 0, &guid, 0)
+    s[..16] == FMP_GUID[..]
 }
 
 // The body.

@@ -1,27 +1,21 @@
--- `offsets_right` meets its contract: every offset passed is right. Assumes nothing.
-use mathlib.Core.Path.{sym, ◌∙◌}
-use mathlib.Core.Bool.{true}
-use Prim.Native.Nat.{◌-◌}
+-- `offsets_right` meets its contract: a list that fits, and every offset. Assumes nothing.
+use mathlib.Core.Path.{sym}
+use borrow.Author.Rules.{rules}
+use borrow.Author.Tests.{lt-leb}
+use Prim.Native.Nat.{◌+◌, ◌*◌}
 use native.Mathlib.Omega.{arith}
+use lib.ListN.{length}
 use Rattle.capsule_body.specs.Body.{items, offset_right}
-use Rattle.capsule_body.proofs.Body.{all_none, all_more, all_fails, all_whole, list_outside}
+use Rattle.capsule_body.proofs.Body.{list_outside}
+use Rattle.capsule_body.proofs.Ranged.{all_from_Range}
 use Rattle.capsule_body.proofs.offsets_right.Goals as goal
 
-pub returns-then-b-n : goal.returns-then-b-n
-returns-then-b-n c = sym (list_outside c.args.b.now c.requires.0 (omega arith))
+pub returns-then-n-b : goal.returns-then-n-b
+returns-then-n-b c =
+    let b = c.args.b.now in
+    all_from_Range (offset_right b) (items b) c.all.ensures.ran (omega arith) (λ x t q k. search rules)
 
-pub loop-k-init : goal.loop-k-init
-loop-k-init c = (omega arith, all_none (offset_right c.args.b.now))
-
-pub returns-then-not-offset_right : goal.returns-then-not-offset_right
-returns-then-not-offset_right c =
-    let r = c.offset_right in
-    sym (all_fails (offset_right c.args.b.now) (items c.args.b.now) c.loop-k.k (omega arith) (sym r.ensures ∙ c.if-not-offset_right.true))
-
-pub loop-k-preserved : goal.loop-k-preserved
-loop-k-preserved c =
-    let r = c.offset_right in
-    (omega arith, all_more (offset_right c.args.b.now) c.loop-k.k c.loop-k.invariant.1 (sym r.ensures ∙ c.if-not-offset_right.false))
-
-pub returns : goal.returns
-returns c = all_whole (offset_right c.args.b.now) c.loop-k.k (items c.args.b.now) c.loop-k.invariant.1 (omega arith)
+pub returns-else-n-b : goal.returns-else-n-b
+returns-else-n-b c =
+    let a = c.args in
+    rw (lt-leb (8 + 8 * a.n) (length a.b.now) c.if-n-b.false) (sym (list_outside a.b.now c.requires.0 (omega arith)))

@@ -1,14 +1,12 @@
 -- `flags_right` meets its contract. Assumes nothing.
-use borrow.Author.Tests.{eq-eqb, ne_eqb}
-use Prim.Native.Nat.{◌/◌, ◌%◌}
-use native.Mathlib.Omega.{arith}
-use Rattle.capsule_header.specs.Header.{flags_right, reset}
+use borrow.Author.Tests.{ne_eqb}
+use Rattle.std.specs.Prelude.{bit_and}
+use Rattle.capsule_header.specs.Header.{reset}
+use Rattle.capsule_header.proofs.Header.{flags_by_masks}
 use Rattle.capsule_header.proofs.flags_right.Goals as goal
 
-pub returns-then-flags-ne1 : goal.returns-then-flags-ne1
-unfolding flags_right
-returns-then-flags-ne1 c = simp (ne_eqb (c.args.flags / reset % 2) 1 c.if-flags-ne1.true)
+pub returns-then-flags-eq0 : goal.returns-then-flags-eq0
+returns-then-flags-eq0 c = rw (flags_by_masks c.args.flags, c.if-flags-eq0.true)
 
-pub returns : goal.returns
-unfolding flags_right
-returns c = simp (eq-eqb (c.args.flags / reset % 2) 1 (omega arith))
+pub returns-else-flags-eq0 : goal.returns-else-flags-eq0
+returns-else-flags-eq0 c = rw (flags_by_masks c.args.flags, ne_eqb (bit_and c.args.flags reset) 0 c.if-flags-eq0.false)
