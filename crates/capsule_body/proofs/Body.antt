@@ -102,7 +102,8 @@ module _ (b : List ℕ) where
     tests : (k : ℕ) → k < items b → (leb (list_end b) (offset b k) ≡ true) × (ltb (offset b k) (length b) ≡ true) × (rises b k ≡ true)
     unfolding offset_right
     tests k lt =
-        let x = both (leb (list_end b) (offset b k) && ltb (offset b k) (length b)) (rises b k) (all_at (offset_right b) (items b) k parts.2 lt) in
+        let r = all_at (offset_right b) (items b) k parts.2 lt in
+        let x = both (leb (list_end b) (offset b k) && ltb (offset b k) (length b)) (rises b k) r in
         let y = both (leb (list_end b) (offset b k)) (ltb (offset b k) (length b)) x.0 in
         (y.0, y.1, x.1)
 

@@ -1,5 +1,5 @@
 -- The definition of an item's place, at each way out, and what it says of the capsule. Assumes nothing.
-use mathlib.Core.Path.{◌≡◌, refl}
+use mathlib.Core.Path.{◌≡◌, refl, sym}
 use mathlib.Core.Bool.{Bool, true, false}
 use mathlib.Core.List.{List}
 use Prim.Native.Nat.{ℕ, ◌+◌, ◌-◌, ◌<◌, ◌≤◌}
@@ -36,11 +36,13 @@ module _ (s : List ℕ) (k : ℕ) where
   unfolding located item_verdict
   located_none e h = rw (e, le-ltb k (items (body s)) h)
 
-  pub located_driver : verdict s ≡ Ok tt → k < items (body s) → k < drivers (body s) → located s k ≡ Ok (Driver (item_start_in s k) (item_end_in s k))
+  pub located_driver : verdict s ≡ Ok tt → k < items (body s) → k < drivers (body s)
+      → located s k ≡ Ok (Driver (item_start_in s k) (item_end_in s k))
   unfolding located item_verdict
   located_driver e h d = rw (e, lt-ltb k (items (body s)) h, lt-ltb k (drivers (body s)) d)
 
-  pub located_payload : verdict s ≡ Ok tt → k < items (body s) → drivers (body s) ≤ k → located s k ≡ Ok (Payload (item_start_in s k) (item_end_in s k))
+  pub located_payload : verdict s ≡ Ok tt → k < items (body s) → drivers (body s) ≤ k
+      → located s k ≡ Ok (Payload (item_start_in s k) (item_end_in s k))
   unfolding located item_verdict
   located_payload e h d = rw (e, lt-ltb k (items (body s)) h, le-ltb k (drivers (body s)) d)
 
@@ -75,6 +77,16 @@ told_judged s k = go (item_verdict s k) (ltb k (drivers (body s)))
     go (Ok x) false = refl
     go (Err r) d = refl
 
+-- the verdict of an answer in hand
+module _ (s : List ℕ) (k : ℕ) where
+  pub judged_found : (i : Item) → located s k ≡ Ok i → item_verdict s k ≡ Ok tt
+  judged_found i e = rw e at (sym (told_judged s k))
+
+  pub judged_refused : (r : Refusal) → located s k ≡ Err r → item_verdict s k ≡ Err r
+  judged_refused r e = rw e at (sym (told_judged s k))
+
+pub ruleset judged = (judged_found, judged_refused)
+
 pub refused_located : (s : List ℕ) (k : ℕ) (r : Refusal) → item_verdict s k ≡ Err r → located s k ≡ Err r
 unfolding located
 refused_located s k r e = rw e
@@ -85,7 +97,8 @@ Holds s (Ok (Driver a e)) = Inside s a e
 Holds s (Ok (Payload a e)) = Inside s a e × (payload_right (part s a e) ≡ true)
 Holds s (Err r) = Unit
 
-payload_right_lem : (s : List ℕ) (k : ℕ) → Sound s → k < items (body s) → drivers (body s) ≤ k → payload_right (part s (item_start_in s k) (item_end_in s k)) ≡ true
+payload_right_lem : (s : List ℕ) (k : ℕ) → Sound s → k < items (body s) → drivers (body s) ≤ k
+    → payload_right (part s (item_start_in s k) (item_end_in s k)) ≡ true
 unfolding payloads_right payload_at_right
 payload_right_lem s k sound lt low =
     let b = body s in
@@ -97,9 +110,12 @@ pub holds : (s : List ℕ) (k : ℕ) → Holds s (located s k)
 unfolding located item_verdict Holds
 holds s k = go (verdict s) refl
   where
-    kinds : Sound s → k < items (body s) → (d : Bool) → ltb k (drivers (body s)) ≡ d → Holds s (Ok (item_of d (item_start_in s k) (item_end_in s k)))
+    kinds : Sound s → k < items (body s) → (d : Bool) → ltb k (drivers (body s)) ≡ d
+        → Holds s (Ok (item_of d (item_start_in s k) (item_end_in s k)))
     kinds sound lt true q = item_inside s k sound lt
-    kinds sound lt false q = (item_inside s k sound lt, payload_right_lem s k sound lt (ltb-false k (drivers (body s)) q))
+    kinds sound lt false q =
+        let low = ltb-false k (drivers (body s)) q in
+        (item_inside s k sound lt, payload_right_lem s k sound lt low)
 
     numbers : Sound s → (t : Bool) → ltb k (items (body s)) ≡ t
         → Holds s (found (unless t NoItem (Ok tt)) (item_of (ltb k (drivers (body s))) (item_start_in s k) (item_end_in s k)))
@@ -107,9 +123,30 @@ holds s k = go (verdict s) refl
     numbers sound false q = tt
 
     go : (v : Verdict) → verdict s ≡ v
-        → Holds s (found (after v (unless (ltb k (items (body s))) NoItem (Ok tt))) (item_of (ltb k (drivers (body s))) (item_start_in s k) (item_end_in s k)))
+        → Holds s
+            (found (after v (unless (ltb k (items (body s))) NoItem (Ok tt)))
+                (item_of (ltb k (drivers (body s))) (item_start_in s k) (item_end_in s k)))
     go (Ok x) e = numbers (faultless s e) (ltb k (items (body s))) refl
     go (Err r) e = tt
+
+-- a payload in hand
+module _ (s : List ℕ) (k a e : ℕ) (found : located s k ≡ Ok (Payload a e)) where
+  held : Holds s (Ok (Payload a e))
+  held = rw found at (holds s k)
+
+  pub payload_some : a < e
+  unfolding Holds
+  payload_some = held.0.some
+
+  pub payload_within : e ≤ length s
+  unfolding Holds
+  payload_within = held.0.within
+
+  pub payload_held : payload_right (part s a e) ≡ true
+  unfolding Holds
+  payload_held = held.1
+
+pub ruleset payload = (payload_some, payload_within, payload_held)
 
 -- ---- what `locate` asks of a faultless capsule, and gives
 module _ (s : List ℕ) (e : verdict s ≡ Ok tt) where
@@ -142,4 +179,7 @@ module _ (s : List ℕ) (e : verdict s ≡ Ok tt) where
     unfolding item_start_in item_end_in header_size
     payload_in d = located_payload s k e lt d
 
-pub ruleset picks = (located_refused, located_none, header_read, sizes_known, offsets_known, counts_read, start_in, end_in, driver_in, payload_in)
+-- what the header and the counts ask
+pub ruleset fit = (header_read, sizes_known, offsets_known, counts_read)
+
+pub ruleset picks = (fit, located_refused, located_none, start_in, end_in, driver_in, payload_in)

@@ -1,7 +1,8 @@
 -- The verdict on a capsule s, and on a capsule with an item number (N10 to N16). Assumes nothing.
 use Rattle.std.specs.Prelude.{ℕ, Bool, true, false, List, Result, Ok, Err, leb, ltb, length}
 use Rattle.refusals.specs.declared.Refusal.{Refusal}
-use Rattle.refusals.specs.declared.Refusal.TheVariants.{CapsuleShort, CapsuleSizes, CapsuleFlags, CapsuleGuid, CapsuleBody, CapsulePayload, NoItem}
+use Rattle.refusals.specs.declared.Refusal.TheVariants.{CapsuleShort, CapsuleSizes, CapsuleFlags, CapsuleGuid, CapsuleBody}
+use Rattle.refusals.specs.declared.Refusal.TheVariants.{CapsulePayload, NoItem}
 use Rattle.capsule_header.specs.Header.{header_least, sizes_right, flags, flags_right, guid_right, body}
 use Rattle.capsule_body.specs.Body.{items, body_right}
 use Rattle.capsule_payloads.specs.Payload.{payloads_right}

@@ -2,56 +2,46 @@
 // refused one answers 0, and `capsule_items::refusal` says which refusal it was.
 #![tactic(auto)]
 
-ghost use Rattle.std.specs.Prelude.{◌≡◌};
-ghost use Rattle.capsule_check.specs.Verdict.{verdict};
+ghost use Rattle.std.specs.Prelude.{◌≡◌, IfOk};
+ghost use Rattle.capsule_check.specs.Verdict.{verdict_of, verdict};
 ghost use Rattle.capsule_counts.specs.Count.{driver_count, payload_count};
 
+use capsule_check::check;
 use capsule_header::body_of;
-use refusal_order::Verdict;
+use refusals::Refusal;
 
-// How many items of each kind; or none, and why.
-#[derive(Clone, Copy)]
+// How many items of each kind.
+#[derive(Clone, Copy, Debug, PartialEq, Eq)]
 pub struct Counts {
-    pub verdict: Verdict,
     pub drivers: usize,
     pub payloads: usize,
 }
 
-// Those of a faultless capsule; none with a refusal. It serves c_capsule too.
-pub fn counts_of(s: &[u8]) -> Counts
-    ensures { (result.drivers ≡ driver_count s.now) × (result.payloads ≡ payload_count s.now)
-        × (result.verdict ≡ verdict s.now) }
+// Those of a faultless capsule, or the refusal. It serves c_capsule too.
+#[tactic(auto, using(capsule_check::proofs::Places::fit), unfolding(crate::specs::Count::driver_count, crate::specs::Count::payload_count))]
+pub fn counts_of(s: &[u8]) -> Result<Counts, Refusal>
+    ensures judged { verdict_of result ≡ verdict s.now }
+    ensures counted { IfOk result (λ c. (c.drivers ≡ driver_count s.now) × (c.payloads ≡ payload_count s.now)) }
 {
-    let checked = capsule_check::check(s);
-    match checked {
-        Verdict::Passed => {
-            let b = body_of(s);
-            let drivers = fields::read16(b, 4) as usize;
-            let payloads = fields::read16(b, 6) as usize;
-            Counts {
-                verdict: Verdict::Passed,
-                drivers,
-                payloads,
-            }
-        }
-        Verdict::Refused(why) => Counts {
-            verdict: Verdict::Refused(why),
-            drivers: 0,
-            payloads: 0,
-        },
-    }
+    check(s)?;
+    let b = body_of(s);
+    let drivers = capsule_body::drivers(b);
+    let payloads = capsule_body::payloads(b);
+    Ok(Counts { drivers, payloads })
 }
 
 // How many drivers a faultless capsule has.
+#[tactic(auto, unfolding(crate::specs::Count::driver_count))]
 pub fn driver_count(s: &[u8]) -> usize
     ensures { result ≡ driver_count s.now }
 {
-    counts_of(s).drivers
+    counts_of(s).map_or(0, |c| c.drivers)
 }
 
 // How many payloads, as above.
+#[tactic(auto, unfolding(crate::specs::Count::payload_count))]
 pub fn payload_count(s: &[u8]) -> usize
     ensures { result ≡ payload_count s.now }
 {
-    counts_of(s).payloads
+    counts_of(s).map_or(0, |c| c.payloads)
 }

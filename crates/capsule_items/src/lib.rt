@@ -5,35 +5,31 @@
 #![tactic(auto)]
 
 ghost use Rattle.std.specs.Prelude.{◌≡◌};
-ghost use Rattle.refusal_order.specs.Decide.{verdict_number};
-ghost use Rattle.capsule_check.specs.Verdict.{refusal_number};
+ghost use Rattle.capsule_check.specs.Verdict.{item_verdict};
 ghost use Rattle.capsule_check.specs.Item.{located};
 ghost use Rattle.fields.specs.Part.{IsPart, range_of};
 ghost use Rattle.capsule_items.specs.Items.{item_part};
 
+use capsule_check::{Item, locate};
 use fields::{Span, part_of};
+use refusals::Refusal;
 
 // The sister of all entries that take an item number: the refusal, 10 to 16, or none.
-pub fn refusal(s: &[u8], k: usize) -> refusal_order::Verdict
-    ensures { verdict_number result ≡ refusal_number s.now k }
+#[tactic(auto, using(capsule_check::proofs::Places::judged))]
+pub fn refusal(s: &[u8], k: usize) -> Result<(), Refusal>
+    ensures { result ≡ item_verdict s.now k }
 {
-    let found = capsule_check::locate(s, k);
-    match found {
-        capsule_check::Item::Driver { start: _, end: _ } => refusal_order::Verdict::Passed,
-        capsule_check::Item::Payload { start: _, end: _ } => refusal_order::Verdict::Passed,
-        capsule_check::Item::Refused(r) => refusal_order::Verdict::Refused(r),
-    }
+    locate(s, k)?;
+    Ok(())
 }
 
 // Where the whole item k lies; with a refusal the empty part at the capsule's start.
 fn item_span(s: &[u8], k: usize) -> Span
     ensures { range_of result ≡ item_part (located s.now k) }
 {
-    let found = capsule_check::locate(s, k);
-    match found {
-        capsule_check::Item::Driver { start, end } => Span { start, end },
-        capsule_check::Item::Payload { start, end } => Span { start, end },
-        capsule_check::Item::Refused(_) => Span { start: 0, end: 0 },
+    match locate(s, k) {
+        Ok(Item::Driver { start, end } | Item::Payload { start, end }) => Span { start, end },
+        Err(_) => Span { start: 0, end: 0 },
     }
 }
 

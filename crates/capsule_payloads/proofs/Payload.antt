@@ -1,14 +1,17 @@
 -- Laws of a payload's header and of what fits in its item. Assumes nothing.
-use mathlib.Core.Path.{◌≡◌}
+use mathlib.Core.Path.{◌≡◌, refl}
 use mathlib.Core.Bool.{Bool, true, false, cond, and-false}
 use mathlib.Core.List.{List}
-use Prim.Native.Nat.{ℕ, ◌<◌, ◌≤◌}
+use Prim.Native.Nat.{ℕ, ◌+◌, ◌<◌, ◌≤◌}
 use native.Mathlib.Omega.{arith}
 use borrow.Author.Tests.{leb-true, lt-leb, ne_eqb}
 use lib.Dec.{leb, eqb}
-use lib.ListN.{length}
+use lib.ListN.{length, get_or}
+use Rattle.fields.specs.Number.{le}
+use Rattle.fields.specs.Guid.{guid}
 use Rattle.fields.proofs.Tests.{both}
-use Rattle.capsule_payloads.specs.Payload.{version, version_right, header_length, payload_right, vendor_code_end}
+use Rattle.capsule_payloads.specs.Payload.{version, type_guid, image_index, image_size, vendor_code_size}
+use Rattle.capsule_payloads.specs.Payload.{version_right, header_length, payload_right, vendor_code_end}
 
 -- a payload header is 32 or 40 bytes long
 pub header_ends : (v : ℕ) → (32 ≤ header_length v) × (header_length v ≤ 40)
@@ -44,3 +47,38 @@ module _ (p : List ℕ) where
   -- a right payload whose version is not 1 has 40 bytes of header
   pub second_header : payload_right p ≡ true → (version p ≡ 1 → ⊥) → 40 ≤ length p
   second_header e ne = omega (arith, payload_fits e, longer (version p) ne)
+
+  -- the fields, by the numbers that the code reads
+  pub version_read : version p ≡ le 4 p 0
+  unfolding version
+  version_read = refl
+
+  pub image_size_read : image_size p ≡ le 4 p 24
+  unfolding image_size
+  image_size_read = refl
+
+  pub vendor_code_size_read : vendor_code_size p ≡ le 4 p 28
+  unfolding vendor_code_size
+  vendor_code_size_read = refl
+
+  pub read_fits : payload_right p ≡ true → header_length (le 4 p 0) + le 4 p 24 + le 4 p 28 ≤ length p
+  unfolding version image_size vendor_code_size
+  read_fits e = payload_fits e
+
+  pub second_read : payload_right p ≡ true → (le 4 p 0 ≡ 1 → ⊥) → 40 ≤ length p
+  unfolding version
+  second_read e ne = second_header e ne
+
+  pub type_guid_read : type_guid p ≡ guid p 4
+  unfolding type_guid
+  type_guid_read = refl
+
+  pub image_index_read : image_index p ≡ get_or p 20 0
+  unfolding image_index
+  image_index_read = refl
+
+-- its fields
+pub ruleset fields_read = (version_read, type_guid_read, image_index_read, image_size_read, vendor_code_size_read)
+
+-- what a right payload's header tells
+pub ruleset told = (first_header, second_read, read_fits, fields_read)

@@ -25,7 +25,7 @@ pub fn header_length(version: u32) -> usize
 }
 
 // Where header, image and vendor code of an item end. Both sizes are widened before they are added.
-#[tactic(auto, unfolding(crate::specs::Payload::version, crate::specs::Payload::image_size, crate::specs::Payload::vendor_code_size))]
+#[tactic(auto, using(crate::proofs::Payload::fields_read, crate::proofs::Payload::header_ends))]
 fn payload_end(p: &[u8]) -> usize
     requires { 32 ≤ length p.now }
     ensures { result ≡ vendor_code_end p.now }

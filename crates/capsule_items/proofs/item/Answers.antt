@@ -7,6 +7,3 @@ part_of-requires c =
     let a = c.args in
     let l = rw (← c.item_span-p.ensures) at (item_lies a.s.now a.k) in
     (l.ordered, l.inside)
-
-pub returns : goal.returns
-returns c = rw (← c.item_span-p.ensures) c.part_of.ensures
