@@ -100,13 +100,8 @@ fn put_item(lending: &Lending, k: usize, at: usize, out: &mut [u8])
 {
     let first = lending.drivers_in();
     if k < first {
-        put_part(
-            lending.drivers,
-            lending.driver_table,
-            DRIVER_ENTRY * k,
-            at,
-            out,
-        );
+        let table = lending.driver_table;
+        put_part(lending.drivers, table, DRIVER_ENTRY * k, at, out);
     } else {
         put_payload(lending, k - first, at, out);
     }

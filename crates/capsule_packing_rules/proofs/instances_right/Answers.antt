@@ -1,13 +1,11 @@
 -- `instances_right` meets its contract: the test holds of every one. Assumes nothing.
-use mathlib.Core.Path.{refl}
-use Rattle.std.proofs.Common.{rules, tests}
+use Rattle.std.proofs.Common.{rules, tests, arith}
+use Rattle.capsule_body.proofs.Ranged.{all_from_Range}
+use Rattle.capsule_contents.specs.Lent.{payloads_in}
 use Rattle.capsule_packing_rules.specs.Rules.{instance_right}
-use Rattle.capsule_packing_rules.proofs.Every.{all_from_range}
 use Rattle.capsule_packing_rules.proofs.instances_right.Goals as goal
 
 pub returns : goal.returns
 returns c =
     let x = c.args.lending.now in
-    let test = instance_right x.payload_table.now in
-    rw (← c.payloads_in.ensures)
-    (all_from_range test c.payloads_in.result _ _ c.all.result refl c.all.ensures.ran (λ x b q k. search (rules, tests)))
+    all_from_Range (instance_right x.payload_table.now) (payloads_in x.payload_table.now) c.all.ensures.ran (omega arith) (λ x t q k. search (rules, tests))
