@@ -8,4 +8,5 @@ use Rattle.capsule_packing_rules.proofs.drivers_inside.Goals as goal
 pub returns : goal.returns
 returns c =
     let x = c.args.lending.now in
-    all_from_Range (driver_inside x.drivers.now x.driver_table.now) (drivers_in x.driver_table.now) c.all.ensures.ran (omega arith) (λ x t q k. search (rules, tests))
+    all_from_Range (driver_inside x.drivers.now x.driver_table.now) (drivers_in x.driver_table.now)
+    c.all.ensures.ran (omega arith) (λ x t q k. search (rules, tests))

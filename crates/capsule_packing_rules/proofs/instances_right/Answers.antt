@@ -8,4 +8,5 @@ use Rattle.capsule_packing_rules.proofs.instances_right.Goals as goal
 pub returns : goal.returns
 returns c =
     let x = c.args.lending.now in
-    all_from_Range (instance_right x.payload_table.now) (payloads_in x.payload_table.now) c.all.ensures.ran (omega arith) (λ x t q k. search (rules, tests))
+    all_from_Range (instance_right x.payload_table.now) (payloads_in x.payload_table.now)
+    c.all.ensures.ran (omega arith) (λ x t q k. search (rules, tests))
