@@ -8,7 +8,9 @@ ghost use Rattle.capsule_packing_rules.specs.Rules.{sized};
 ghost use Rattle.capsule_packer.specs.Packer.{packed};
 ghost use Rattle.c_reply.specs.Replied.{replied};
 
-use capsule_packing_rules::Packed;
+use capsule_contents::Lending;
+use capsule_packer::pack;
+use capsule_packing_rules::packed_size;
 
 // Returns 0 and sets how many bytes the capsule would have; or returns the refusal, N50 to N56, and sets nothing (X5).
 #[unsafe(no_mangle)]
@@ -24,20 +26,20 @@ pub extern "C" fn meanderpeg_capsule_packed_size(
     ensures { (result, size.new) ≡ replied (sized (lent flags drivers.now driver_table.now
         images.now vendor_codes.now payload_table.now)) size.old }
 {
-    let answer = capsule_packing_rules::packed_size(
+    let lending = Lending {
         flags,
         drivers,
         driver_table,
         images,
-        vendor_codes,
+        codes: vendor_codes,
         payload_table,
-    );
-    match answer {
-        Packed::Length(n) => {
+    };
+    match packed_size(&lending) {
+        Ok(n) => {
             *size = n;
             0
         }
-        Packed::Refused(why) => why.number(),
+        Err(why) => why.number(),
     }
 }
 
@@ -60,20 +62,19 @@ pub extern "C" fn meanderpeg_capsule_pack(
         × (capsule.new ≡ (packed (lent flags drivers.now driver_table.now images.now
         vendor_codes.now payload_table.now) capsule.old).1) }
 {
-    let answer = capsule_packer::pack(
+    let lending = Lending {
         flags,
         drivers,
         driver_table,
         images,
-        vendor_codes,
+        codes: vendor_codes,
         payload_table,
-        capsule,
-    );
-    match answer {
-        Packed::Length(n) => {
+    };
+    match pack(&lending, capsule) {
+        Ok(n) => {
             *length = n;
             0
         }
-        Packed::Refused(why) => why.number(),
+        Err(why) => why.number(),
     }
 }

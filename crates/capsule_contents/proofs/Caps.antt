@@ -18,9 +18,6 @@ pub cap_high : (n : ℕ) → size_cap < n → cap n ≡ size_cap
 unfolding cap
 cap_high n h = rw (lt-leb n size_cap h)
 
-pub cap_least : (n : ℕ) → cap n ≤ size_cap
-cap_least n = ⊎_elim (λ le. omega (arith, cap_low n le)) (λ lt. omega (arith, cap_high n lt)) (le_or_lt n size_cap)
-
 pub cap_below : (n : ℕ) → cap n < size_cap → n ≡ cap n
 cap_below n h = ⊎_elim (λ le. sym (cap_low n le)) (λ lt. absurd (omega (arith, cap_high n lt))) (le_or_lt n size_cap)
 

@@ -2,3 +2,4 @@
 pub mod Contents
 pub mod Lent
 pub mod Sizes
+pub mod Given

@@ -9,7 +9,7 @@ use Rattle.fields.specs.Number.{bytes, put}
 use Rattle.fields.specs.Joined.{joined}
 use Rattle.fields.proofs.Number.{length_bytes}
 use Rattle.capsule_contents.specs.Contents.{items_of, item_bytes, offset_of, header_bytes, body_bytes, capsule_bytes}
-use Rattle.capsule_contents.specs.Lent.{Lent, lent, contents_of, drivers_in, payloads_in}
+use Rattle.capsule_contents.specs.Lent.{Lent, contents_of, drivers_in, payloads_in}
 use Rattle.capsule_contents.specs.Sizes.{size_cap, item_size, sum}
 use Rattle.capsule_contents.proofs.Caps.{sum_each, sum_grows}
 use Rattle.capsule_contents.proofs.Lengths.{joined_sum, header_length_lem, capsule_length}
@@ -112,12 +112,3 @@ module _ (x : Lent) (n room : ℕ) (all : n ≡ items_of (contents_of x)) (ok : 
       let one = put_next s 0 36 (front_of x) offsets (omega arith) (omega arith) p q in
       put_next s 0 (36 + 8 * n) (front_of x ++ offsets) items (omega arith) (omega arith) one t
       ∙ ap (λ (l : List ℕ). put s 0 l) capsule_is
-
--- the flags show in the header alone, and there may be more room
-pub flags_aside : (flags : ℕ) (drivers driver_table images codes payload_table : List ℕ) {room new : ℕ} → room ≤ new
-    → Packable (lent flags drivers driver_table images codes payload_table) room
-    → Packable (lent 0 drivers driver_table images codes payload_table) new
-flags_aside flags drivers driver_table images codes payload_table h ok =
-    let other = packed_size_is (lent 0 drivers driver_table images codes payload_table) ok.parts in
-    let own = packed_size_is (lent flags drivers driver_table images codes payload_table) ok.parts in
-    record { few = ok.few; parts = ok.parts; small = omega (arith, ok.small); fits = omega (arith, ok.fits) }

@@ -10,7 +10,7 @@ use lib.ListN.{length, length-append}
 use Rattle.fields.specs.Number.{bytes, put, words_bytes}
 use Rattle.fields.specs.Joined.{joined}
 use Rattle.fields.proofs.Number.{length_bytes}
-use Rattle.fields.proofs.Put.{put_length, put_more}
+use Rattle.fields.proofs.Put.{put_more}
 use Rattle.fields.proofs.Words.{length_words, put_none}
 use Rattle.capsule_header.specs.Header.{fmp_guid}
 use Rattle.capsule_contents.specs.Contents.{PayloadContents, payload_header_bytes, header_bytes}
@@ -35,10 +35,6 @@ module _ (s : List ℕ) (i : ℕ) (g : ℕ → List ℕ) where
       → one ≡ put s i (joined k g) → two ≡ put one (i + n) (g k) → two ≡ put s i (joined (k + 1) g)
   unfolding joined
   joined_next k n {one} {two} l h p q = rw add-one (put_next s i (i + n) (joined k g) (g k) (omega arith) h p q)
-
--- a store leaves the length
-pub put_kept : (s : List ℕ) (i : ℕ) (xs : List ℕ) {new : List ℕ} → i + length xs ≤ length s → new ≡ put s i xs → length new ≡ length s
-put_kept s i xs h e = ap length e ∙ put_length s i xs h
 
 -- the GUID, four words, and two halves: the front
 pub front_put : (s : List ℕ) (flags size drivers payloads : ℕ) {a b c d : List ℕ} → 36 ≤ length s → a ≡ put s 0 fmp_guid

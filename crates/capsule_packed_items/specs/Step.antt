@@ -5,9 +5,9 @@ use Rattle.fields.specs.Number.{bytes}
 use Rattle.fields.specs.Joined.{joined}
 use Rattle.capsule_body.specs.Body.{item_limit}
 use Rattle.capsule_contents.specs.Contents.{header_bytes, items_of, size_limit}
-use Rattle.capsule_contents.specs.Lent.{Lent, contents_of}
-use Rattle.capsule_contents.specs.Sizes.{size_cap, sum, item_size}
-use Rattle.capsule_packing_rules.specs.Rules.{parts_inside, capsule_size}
+use Rattle.capsule_contents.specs.Lent.{Lent, contents_of, payloads_in}
+use Rattle.capsule_contents.specs.Sizes.{size_cap, sum, payload_size, item_size}
+use Rattle.capsule_packing_rules.specs.Rules.{payload_inside, parts_inside, capsule_size}
 
 -- what comes before the list of offsets
 unfoldable pub front_bytes : (flags size drivers payloads : ℕ) → List ℕ
@@ -17,6 +17,13 @@ front_bytes flags size drivers payloads = header_bytes flags size ++ bytes 4 1 +
 unfoldable pub offsets_bytes : (driver_table payload_table : List ℕ) (items : ℕ) → List ℕ
 offsets_bytes driver_table payload_table items =
     joined items (λ k. bytes 8 (8 + 8 * items + sum k (item_size driver_table payload_table)))
+
+-- payload j has its parts in their slices, a size that can be told, and room from `at` on
+pub record PayloadReady (x : Lent) (j at room : ℕ) : Type 0 where
+  pub named : j < payloads_in x.payload_table
+  pub parts : payload_inside x.image_slice x.vendor_code_slice x.payload_table j ≡ true
+  pub small : payload_size x.payload_table j < size_cap
+  pub fits : at + payload_size x.payload_table j ≤ room
 
 -- item k has its parts in their slices, a size that can be told, and room from `at` on
 pub record ItemReady (x : Lent) (k at room : ℕ) : Type 0 where

@@ -2,18 +2,17 @@
 // offsets, the list, the items. The packer has tested parts, size and room; each function asks that of its caller.
 #![tactic(auto)]
 
-ghost use Rattle.std.specs.Prelude.{◌≡◌, true, ◌+◌, ◌*◌, ◌≤◌, ◌<◌, length};
+ghost use Rattle.std.specs.Prelude.{◌≡◌, true, ◌+◌, ◌*◌, ◌≤◌, length};
 ghost use Rattle.fields.specs.Number.{put};
 ghost use Rattle.fields.specs.Joined.{joined};
-ghost use Rattle.capsule_body.specs.Body.{item_limit};
 ghost use Rattle.capsule_contents.specs.Contents.{payload_header_bytes, payload_bytes, items_of, item_bytes, capsule_bytes};
-ghost use Rattle.capsule_contents.specs.Lent.{lent, contents_of, payload_given, drivers_in, payloads_in};
-ghost use Rattle.capsule_contents.specs.Sizes.{size_cap, payload_size, item_size, sum};
-ghost use Rattle.capsule_packing_rules.specs.Rules.{payload_inside, capsule_size};
-ghost use Rattle.capsule_packed_items.specs.Step.{front_bytes, offsets_bytes, ItemReady, Packable};
+ghost use Rattle.capsule_contents.specs.Given.{given};
+ghost use Rattle.capsule_contents.specs.Lent.{contents_of, range_at, length_at, bytes_of};
+ghost use Rattle.capsule_packing_rules.specs.Rules.{inside, capsule_size};
+ghost use Rattle.capsule_packed_items.specs.Step.{front_bytes, offsets_bytes, PayloadReady, ItemReady, Packable};
 
 use capsule_contents::{
-    DRIVER_ENTRY, IMAGE_AT, IMAGE_INDEX_AT, INSTANCE_AT, PAYLOAD_ENTRY, TYPE_GUID_AT,
+    DRIVER_ENTRY, IMAGE_AT, IMAGE_INDEX_AT, INSTANCE_AT, Lending, PAYLOAD_ENTRY, TYPE_GUID_AT,
     VENDOR_CODE_AT, item_size,
 };
 use capsule_header::FMP_GUID;
@@ -27,181 +26,109 @@ fn put_front(flags: u32, size: u32, drivers: u16, payloads: u16, out: &mut [u8])
     requires { 36 ≤ length out.old }
     ensures { out.new ≡ put out.old 0 (front_bytes flags size drivers payloads) }
 {
-    let guid = FMP_GUID;
-    let four = [28, flags, size, 1];
-    write_guid(out, 0, &guid, 0);
-    write_words(out, 16, &four);
+    write_guid(out, 0, &FMP_GUID, 0);
+    write_words(out, 16, &[28, flags, size, 1]);
     write16(out, 32, drivers);
     write16(out, 34, payloads);
 }
 
 // Puts the offsets of all items, each behind the one before.
-fn put_offsets(driver_table: &[u8], payload_table: &[u8], items: usize, out: &mut [u8])
-    requires { (items ≡ drivers_in driver_table.now + payloads_in payload_table.now) × (items ≤ item_limit)
-        × (sum items (item_size driver_table.now payload_table.now) < size_cap) × (36 + 8 * items ≤ length out.old) }
-    ensures { out.new ≡ put out.old 36 (offsets_bytes driver_table.now payload_table.now items) }
+fn put_offsets(lending: &Lending, out: &mut [u8])
+    requires { Packable (given lending.now) (length out.old) }
+    ensures { out.new ≡ put out.old 36 (offsets_bytes lending.now.driver_table.now
+        lending.now.payload_table.now (items_of (contents_of (given lending.now)))) }
 {
+    let items = lending.items();
     let mut offset = 8 + 8 * items;
-    let mut k = 0;
-    while k < items {
+    for k in 0..items {
         write64(out, FRONT + 8 * k, offset as u64);
-        offset += item_size(driver_table, payload_table, k);
-        k += 1;
+        offset += item_size(lending, k);
     }
+}
+
+// Puts the part of `slice` that the table tells at `entry`.
+fn put_part(slice: &[u8], table: &[u8], entry: usize, at: usize, out: &mut [u8])
+    requires { (entry + 16 ≤ length table.now) × (inside slice.now (range_at table.now entry) ≡ true)
+        × (at + length_at table.now entry ≤ length out.old) }
+    ensures { out.new ≡ put out.old at (bytes_of slice.now (range_at table.now entry)) }
+{
+    let start = read64(table, entry) as usize;
+    let size = read64(table, entry + 8) as usize;
+    write_part(out, at, slice, start, size);
 }
 
 // Puts the header of payload j at `at`. The index goes in as a number of 32 bits, so that the reserved bytes behind it
 // are 0.
-fn put_payload_header(
-    images: &[u8],
-    codes: &[u8],
-    table: &[u8],
-    j: usize,
-    at: usize,
-    out: &mut [u8],
-)
-    requires { (j < payloads_in table.now) × (payload_inside images.now codes.now table.now j ≡ true)
-        × (payload_size table.now j < size_cap) × (at + payload_size table.now j ≤ length out.old) }
+#[tactic(auto, using(crate::proofs::Payloads::size_least, crate::proofs::Payloads::size_more))]
+fn put_payload_header(lending: &Lending, j: usize, at: usize, out: &mut [u8])
+    requires { PayloadReady (given lending.now) j at (length out.old) }
     ensures { out.new ≡ put out.old at
-        (payload_header_bytes (payload_given images.now codes.now table.now j)) }
+        (payload_header_bytes ((contents_of (given lending.now)).payload j)) }
 {
+    let table = lending.payload_table;
     let entry = PAYLOAD_ENTRY * j;
     let version = read32(table, entry);
     let image = read64(table, entry + IMAGE_AT + 8);
     let code = read64(table, entry + VENDOR_CODE_AT + 8);
-    let three = [
-        table[entry + IMAGE_INDEX_AT] as u32,
-        image as u32,
-        code as u32,
-    ];
+    let index = u32::from(table[entry + IMAGE_INDEX_AT]);
     write32(out, at, version);
     write_guid(out, at + 4, table, entry + TYPE_GUID_AT);
-    write_words(out, at + 20, &three);
+    write_words(out, at + 20, &[index, image as u32, code as u32]);
     if version != 1 {
         write64(out, at + 32, read64(table, entry + INSTANCE_AT));
     }
 }
 
 // Puts payload j at `at`: header, image, vendor code.
-fn put_payload(images: &[u8], codes: &[u8], table: &[u8], j: usize, at: usize, out: &mut [u8])
-    requires { (j < payloads_in table.now) × (payload_inside images.now codes.now table.now j ≡ true)
-        × (payload_size table.now j < size_cap) × (at + payload_size table.now j ≤ length out.old) }
-    ensures { out.new ≡ put out.old at
-        (payload_bytes (payload_given images.now codes.now table.now j)) }
+fn put_payload(lending: &Lending, j: usize, at: usize, out: &mut [u8])
+    requires { PayloadReady (given lending.now) j at (length out.old) }
+    ensures { out.new ≡ put out.old at (payload_bytes ((contents_of (given lending.now)).payload j)) }
 {
+    let table = lending.payload_table;
     let entry = PAYLOAD_ENTRY * j;
-    let image = read64(table, entry + IMAGE_AT + 8) as usize;
-    let code = read64(table, entry + VENDOR_CODE_AT + 8) as usize;
-    put_payload_header(images, codes, table, j, at, out);
-    let behind = at + header_length(read32(table, entry));
-    write_part(
-        out,
-        behind,
-        images,
-        read64(table, entry + IMAGE_AT) as usize,
-        image,
-    );
-    write_part(
-        out,
-        behind + image,
-        codes,
-        read64(table, entry + VENDOR_CODE_AT) as usize,
-        code,
-    );
+    put_payload_header(lending, j, at, out);
+    let image_at = at + header_length(read32(table, entry));
+    put_part(lending.images, table, entry + IMAGE_AT, image_at, out);
+    let code_at = image_at + read64(table, entry + IMAGE_AT + 8) as usize;
+    put_part(lending.codes, table, entry + VENDOR_CODE_AT, code_at, out);
 }
 
 // Puts item k at `at`.
-fn put_item(
-    drivers: &[u8],
-    driver_table: &[u8],
-    images: &[u8],
-    codes: &[u8],
-    payload_table: &[u8],
-    k: usize,
-    at: usize,
-    out: &mut [u8],
-)
-    requires { ItemReady (lent 0 drivers.now driver_table.now images.now codes.now payload_table.now)
-        k at (length out.old) }
-    ensures { out.new ≡ put out.old at (item_bytes (contents_of (lent 0 drivers.now
-        driver_table.now images.now codes.now payload_table.now)) k) }
+fn put_item(lending: &Lending, k: usize, at: usize, out: &mut [u8])
+    requires { ItemReady (given lending.now) k at (length out.old) }
+    ensures { out.new ≡ put out.old at (item_bytes (contents_of (given lending.now)) k) }
 {
-    let first = driver_table.len() / DRIVER_ENTRY;
+    let first = lending.drivers_in();
     if k < first {
-        let entry = DRIVER_ENTRY * k;
-        write_part(
-            out,
-            at,
-            drivers,
-            read64(driver_table, entry) as usize,
-            read64(driver_table, entry + 8) as usize,
-        );
-        return;
+        let table = lending.driver_table;
+        put_part(lending.drivers, table, DRIVER_ENTRY * k, at, out);
+    } else {
+        put_payload(lending, k - first, at, out);
     }
-    put_payload(images, codes, payload_table, k - first, at, out);
 }
 
 // Puts all items behind the list of offsets.
-fn put_items(
-    drivers: &[u8],
-    driver_table: &[u8],
-    images: &[u8],
-    codes: &[u8],
-    payload_table: &[u8],
-    items: usize,
-    out: &mut [u8],
-)
-    requires { (items ≡ drivers_in driver_table.now + payloads_in payload_table.now)
-        × Packable (lent 0 drivers.now driver_table.now images.now codes.now payload_table.now) (length out.old) }
-    ensures { out.new ≡ put out.old (36 + 8 * items) (joined items (item_bytes (contents_of
-        (lent 0 drivers.now driver_table.now images.now codes.now
-        payload_table.now)))) }
+fn put_items(lending: &Lending, out: &mut [u8])
+    requires { Packable (given lending.now) (length out.old) }
+    ensures { out.new ≡ put out.old (36 + 8 * items_of (contents_of (given lending.now)))
+        (joined (items_of (contents_of (given lending.now))) (item_bytes (contents_of (given lending.now)))) }
 {
+    let items = lending.items();
     let mut at = FRONT + 8 * items;
-    let mut k = 0;
-    while k < items {
-        put_item(
-            drivers,
-            driver_table,
-            images,
-            codes,
-            payload_table,
-            k,
-            at,
-            out,
-        );
-        at += item_size(driver_table, payload_table, k);
-        k += 1;
+    for k in 0..items {
+        put_item(lending, k, at, out);
+        at += item_size(lending, k);
     }
 }
 
 // Puts the whole capsule, whose size is given, at the front of `out`.
-pub fn put_capsule(
-    flags: u32,
-    drivers: &[u8],
-    driver_table: &[u8],
-    images: &[u8],
-    codes: &[u8],
-    payload_table: &[u8],
-    size: usize,
-    out: &mut [u8],
-)
-    requires { (size ≡ capsule_size (lent flags drivers.now driver_table.now images.now codes.now payload_table.now))
-        × Packable (lent flags drivers.now driver_table.now images.now codes.now payload_table.now) (length out.old) }
-    ensures { out.new ≡ put out.old 0 (capsule_bytes (contents_of (lent flags drivers.now
-        driver_table.now images.now codes.now payload_table.now))) }
+pub fn put_capsule(lending: &Lending, size: usize, out: &mut [u8])
+    requires { (size ≡ capsule_size (given lending.now)) × Packable (given lending.now) (length out.old) }
+    ensures { out.new ≡ put out.old 0 (capsule_bytes (contents_of (given lending.now))) }
 {
-    let first = driver_table.len() / DRIVER_ENTRY;
-    let rest = payload_table.len() / PAYLOAD_ENTRY;
-    put_front(flags, size as u32, first as u16, rest as u16, out);
-    put_offsets(driver_table, payload_table, first + rest, out);
-    put_items(
-        drivers,
-        driver_table,
-        images,
-        codes,
-        payload_table,
-        first + rest,
-        out,
-    );
+    let drivers = lending.drivers_in() as u16;
+    let payloads = lending.payloads_in() as u16;
+    put_front(lending.flags, size as u32, drivers, payloads, out);
+    put_offsets(lending, out);
+    put_items(lending, out);
 }

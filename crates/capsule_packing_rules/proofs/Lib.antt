@@ -1,5 +1,4 @@
--- Laws of the sizes of what is packed, for the proofs here and in the crates above; of the loops and the answers here.
+-- Laws of the sizes of what is packed, for the proofs here and in the crates above; of the answers here.
 -- Assumes nothing.
 pub mod Sizes
-pub mod Loops
 pub mod Steps

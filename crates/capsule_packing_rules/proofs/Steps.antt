@@ -36,27 +36,25 @@ module _ (x : Lent) where
     within = not-false (parts_inside x) (no_fault (contents_tests x) fine).1.0
 
     -- the size that is worked is the capsule's, or the cap
-    pub size_worked : (size items-size : ℕ) → size ≡ cap (36 + 8 * items_of (contents_of x) + items-size)
-        → items-size ≡ cap (sum (items_of (contents_of x)) (item_size x.driver_table x.payload_table))
-        → size ≡ cap (capsule_size x)
-    size_worked size items-size e f =
-        let front = 36 + 8 * items_of (contents_of x) in
-        e ∙ rw (f, packed_size_is x within) (cap_right front _ (omega (arith, few)))
+    module _ (size n total : ℕ) (e : size ≡ cap (36 + 8 * n + total)) (counted : n ≡ items_of (contents_of x))
+        (added : total ≡ cap (sum (items_of (contents_of x)) (item_size x.driver_table x.payload_table))) where
+      worked : size ≡ cap (capsule_size x)
+      worked = e ∙ rw (counted, added, packed_size_is x within) (cap_right (36 + 8 * items_of (contents_of x)) _ (omega (arith, few)))
 
-    -- 56
-    pub size_refused : (size : ℕ) → size ≡ cap (capsule_size x) → size_cap ≤ size → refusing PackSize ≡ sized x
-    unfolding sized size_tests reply
-    size_refused size e h =
-        let past : size_limit < capsule_size x =
-        ⊎_elim (λ (high : size_cap ≤ capsule_size x). omega arith)
-        (λ low. absurd (omega (arith, cap_low (capsule_size x) (omega arith)))) (le_or_lt size_cap (capsule_size x)) in
-        rw (← passed_before (contents_tests x) ((ltb size_limit (capsule_size x), PackSize) ∷ []) _ fine
-        (found (ltb size_limit (capsule_size x)) PackSize [] (lt-ltb size_limit (capsule_size x) past)))
+      -- 56
+      pub size_refused : size_cap ≤ size → refusing PackSize ≡ sized x
+      unfolding sized size_tests reply
+      size_refused h =
+          let past : size_limit < capsule_size x =
+          ⊎_elim (λ (high : size_cap ≤ capsule_size x). omega arith)
+          (λ low. absurd (omega (arith, worked, cap_low (capsule_size x) (omega arith)))) (le_or_lt size_cap (capsule_size x)) in
+          rw (← passed_before (contents_tests x) ((ltb size_limit (capsule_size x), PackSize) ∷ []) _ fine
+          (found (ltb size_limit (capsule_size x)) PackSize [] (lt-ltb size_limit (capsule_size x) past)))
 
-    pub size_given : (size : ℕ) → size ≡ cap (capsule_size x) → size < size_cap → gives size ≡ sized x
-    unfolding sized size_tests reply decide
-    size_given size e h =
-        let whole : capsule_size x ≡ size = cap_below (capsule_size x) (rw (← e) h) ∙ sym e in
-        rw (← passed_before (contents_tests x) ((ltb size_limit (capsule_size x), PackSize) ∷ []) passed fine
-        (missed (ltb size_limit (capsule_size x)) PackSize [] passed (le-ltb size_limit (capsule_size x) (omega arith)) refl))
-        (rw whole)
+      pub size_given : size < size_cap → gives size ≡ sized x
+      unfolding sized size_tests reply decide
+      size_given h =
+          let whole : capsule_size x ≡ size = cap_below (capsule_size x) (rw (← worked) h) ∙ sym worked in
+          rw (← passed_before (contents_tests x) ((ltb size_limit (capsule_size x), PackSize) ∷ []) passed fine
+          (missed (ltb size_limit (capsule_size x)) PackSize [] passed (le-ltb size_limit (capsule_size x) (omega arith)) refl))
+          (rw whole)

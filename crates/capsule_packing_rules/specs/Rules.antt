@@ -4,15 +4,13 @@ use Rattle.std.specs.Prelude.{ℕ, Bool, not, ◌&&◌, ◌||◌, List, [], ◌�
 use Rattle.fields.specs.Part.{Range}
 use Rattle.refusals.specs.declared.Refusal.TheVariants.{PackItems, PackPart, PackEmptyDriver, PackVersion}
 use Rattle.refusals.specs.declared.Refusal.TheVariants.{PackInstance, PackFlags, PackSize}
-use Rattle.refusal_order.specs.Decide.{Test, decide, Reply, gives, refusing, reply}
+use Rattle.refusal_order.specs.Decide.{Test, decide, Reply, reply}
 use Rattle.capsule_header.specs.Header.{flags_right}
 use Rattle.capsule_body.specs.Body.{all, item_limit}
 use Rattle.capsule_payloads.specs.Payload.{version_right}
 use Rattle.capsule_contents.specs.Contents.{items_of, capsule_bytes, size_limit}
 use Rattle.capsule_contents.specs.Lent.{Lent, contents_of, drivers_in, payloads_in, range_at, length_at}
 use Rattle.capsule_contents.specs.Lent.{driver_at, image_at, vendor_code_at, version_given, instance_given}
-use Rattle.capsule_packing_rules.specs.declared.Packed.{Packed}
-use Rattle.capsule_packing_rules.specs.declared.Packed.TheVariants.{Length, Refused}
 
 -- a part lies in its slice. An empty one may stand at the slice's end, and none behind it
 abbrev pub inside : (slice : List ℕ) → Range → Bool
@@ -60,11 +58,6 @@ contents_tests x =
 -- and 56
 unfoldable pub size_tests : Lent → List Test
 size_tests x = contents_tests x ++ ((ltb size_limit (capsule_size x), PackSize) ∷ [])
-
--- what each case of the answer states
-abbrev pub packed_reply : Packed → Reply ℕ
-packed_reply (Length n) = gives n
-packed_reply (Refused r) = refusing r
 
 -- the size of the capsule that would be packed, or the refusal
 unfoldable pub sized : Lent → Reply ℕ

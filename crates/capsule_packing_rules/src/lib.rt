@@ -1,199 +1,127 @@
 // The packer's tests 50 to 56, and the size of the capsule that would be packed.
 #![tactic(auto)]
 
-ghost use Rattle.std.specs.Prelude.{◌≡◌, ◌+◌, ◌<◌};
-ghost use Rattle.refusal_order.specs.Decide.{decide, decision_of};
+ghost use Rattle.std.specs.Prelude.{◌≡◌, ◌<◌};
+ghost use Rattle.refusal_order.specs.Decide.{decide, decision_of, reply_of};
 ghost use Rattle.capsule_body.specs.Body.{all};
-ghost use Rattle.capsule_contents.specs.Lent.{lent, drivers_in, payloads_in};
+ghost use Rattle.capsule_contents.specs.Contents.{items_of};
+ghost use Rattle.capsule_contents.specs.Given.{given};
+ghost use Rattle.capsule_contents.specs.Lent.{contents_of, drivers_in, payloads_in};
 ghost use Rattle.capsule_contents.specs.Sizes.{cap, item_size, sum};
 ghost use Rattle.capsule_packing_rules.specs.Rules.{driver_inside, payload_inside, driver_filled, version_at_right, instance_right};
-ghost use Rattle.capsule_packing_rules.specs.Rules.{contents_tests, packed_reply, sized};
+ghost use Rattle.capsule_packing_rules.specs.Rules.{contents_tests, sized};
 
 use capsule_body::ITEM_LIMIT;
 use capsule_contents::{
-    DRIVER_ENTRY, IMAGE_AT, INSTANCE_AT, PAYLOAD_ENTRY, SIZE_CAP, VENDOR_CODE_AT, add_capped,
-    item_size, part_inside,
+    DRIVER_ENTRY, IMAGE_AT, INSTANCE_AT, Lending, PAYLOAD_ENTRY, SIZE_CAP, VENDOR_CODE_AT,
+    add_capped, item_size, part_inside,
 };
 use capsule_header::flags_right;
 use capsule_payloads::version_right;
 use fields::{read32, read64};
-use refusal_order::Verdict;
 use refusals::Refusal;
 
 // The bytes before the list of offsets: the header and the body's version and counts.
 pub const FRONT: usize = 36;
 
-// How many bytes, or the refusal.
-#[derive(Clone, Copy)]
-pub enum Packed {
-    Length(usize),
-    Refused(Refusal),
-}
-
 // N51, for the drivers.
-fn drivers_inside(drivers: &[u8], table: &[u8]) -> bool
-    ensures { result ≡ all (driver_inside drivers.now table.now) (drivers_in table.now) }
+fn drivers_inside(lending: &Lending) -> bool
+    ensures { result ≡ all (driver_inside lending.now.drivers.now lending.now.driver_table.now)
+        (drivers_in lending.now.driver_table.now) }
 {
-    let count = table.len() / DRIVER_ENTRY;
-    let mut k = 0;
-    while k < count {
-        if !part_inside(table, DRIVER_ENTRY * k, drivers.len()) {
-            return false;
-        }
-        k += 1;
-    }
-    true
+    let table = lending.driver_table;
+    (0..lending.drivers_in()).all(|k| part_inside(table, DRIVER_ENTRY * k, lending.drivers.len()))
 }
 
 // N51, for images and vendor codes.
-fn payloads_inside(images: &[u8], codes: &[u8], table: &[u8]) -> bool
-    ensures { result ≡ all (payload_inside images.now codes.now table.now)
-        (payloads_in table.now) }
+fn payloads_inside(lending: &Lending) -> bool
+    ensures { result ≡ all (payload_inside lending.now.images.now lending.now.codes.now
+        lending.now.payload_table.now) (payloads_in lending.now.payload_table.now) }
 {
-    let count = table.len() / PAYLOAD_ENTRY;
-    let mut j = 0;
-    while j < count {
-        if !part_inside(table, PAYLOAD_ENTRY * j + IMAGE_AT, images.len()) {
-            return false;
-        }
-        if !part_inside(table, PAYLOAD_ENTRY * j + VENDOR_CODE_AT, codes.len()) {
-            return false;
-        }
-        j += 1;
-    }
-    true
+    let table = lending.payload_table;
+    (0..lending.payloads_in()).all(|j| {
+        let entry = PAYLOAD_ENTRY * j;
+        part_inside(table, entry + IMAGE_AT, lending.images.len())
+            && part_inside(table, entry + VENDOR_CODE_AT, lending.codes.len())
+    })
 }
 
 // N52.
-fn drivers_filled(table: &[u8]) -> bool
-    ensures { result ≡ all (driver_filled table.now) (drivers_in table.now) }
+fn drivers_filled(lending: &Lending) -> bool
+    ensures { result ≡ all (driver_filled lending.now.driver_table.now)
+        (drivers_in lending.now.driver_table.now) }
 {
-    let count = table.len() / DRIVER_ENTRY;
-    let mut k = 0;
-    while k < count {
-        if read64(table, DRIVER_ENTRY * k + 8) == 0 {
-            return false;
-        }
-        k += 1;
-    }
-    true
+    (0..lending.drivers_in()).all(|k| read64(lending.driver_table, DRIVER_ENTRY * k + 8) != 0)
 }
 
 // N53.
-fn versions_right(table: &[u8]) -> bool
-    ensures { result ≡ all (version_at_right table.now) (payloads_in table.now) }
+fn versions_right(lending: &Lending) -> bool
+    ensures { result ≡ all (version_at_right lending.now.payload_table.now)
+        (payloads_in lending.now.payload_table.now) }
 {
-    let count = table.len() / PAYLOAD_ENTRY;
-    let mut j = 0;
-    while j < count {
-        if !version_right(read32(table, PAYLOAD_ENTRY * j)) {
-            return false;
-        }
-        j += 1;
-    }
-    true
-}
-
-// N54, for one payload.
-fn instance_right(table: &[u8], j: usize) -> bool
-    requires { j < payloads_in table.now }
-    ensures { result ≡ instance_right table.now j }
-{
-    if read32(table, PAYLOAD_ENTRY * j) != 1 {
-        return true;
-    }
-    read64(table, PAYLOAD_ENTRY * j + INSTANCE_AT) == 0
+    let table = lending.payload_table;
+    (0..lending.payloads_in()).all(|j| version_right(read32(table, PAYLOAD_ENTRY * j)))
 }
 
 // N54.
-fn instances_right(table: &[u8]) -> bool
-    ensures { result ≡ all (instance_right table.now) (payloads_in table.now) }
+fn instances_right(lending: &Lending) -> bool
+    ensures { result ≡ all (instance_right lending.now.payload_table.now)
+        (payloads_in lending.now.payload_table.now) }
 {
-    let count = table.len() / PAYLOAD_ENTRY;
-    let mut j = 0;
-    while j < count {
-        if !instance_right(table, j) {
-            return false;
-        }
-        j += 1;
-    }
-    true
+    let table = lending.payload_table;
+    (0..lending.payloads_in()).all(|j| {
+        let entry = PAYLOAD_ENTRY * j;
+        read32(table, entry) != 1 || read64(table, entry + INSTANCE_AT) == 0
+    })
 }
 
 // The sum of the items' sizes, or the cap.
-fn items_size(driver_table: &[u8], payload_table: &[u8]) -> usize
-    ensures { result ≡ cap (sum (drivers_in driver_table.now + payloads_in payload_table.now)
-        (item_size driver_table.now payload_table.now)) }
+fn items_size(lending: &Lending) -> usize
+    ensures { result ≡ cap (sum (items_of (contents_of (given lending.now)))
+        (item_size lending.now.driver_table.now lending.now.payload_table.now)) }
 {
-    let items = driver_table.len() / DRIVER_ENTRY + payload_table.len() / PAYLOAD_ENTRY;
     let mut total = 0;
-    let mut k = 0;
-    while k < items {
-        total = add_capped(total, item_size(driver_table, payload_table, k));
-        k += 1;
+    for k in 0..lending.items() {
+        total = add_capped(total, item_size(lending, k));
     }
     total
 }
 
 // 50 to 55, in that order.
-fn admit(
-    flags: u32,
-    drivers: &[u8],
-    driver_table: &[u8],
-    images: &[u8],
-    codes: &[u8],
-    payload_table: &[u8],
-) -> Verdict
-    ensures { decision_of result ≡ decide (contents_tests (lent flags drivers.now driver_table.now
-        images.now codes.now payload_table.now)) }
+#[tactic(auto, unfolding(refusal_order::specs::Decide::decide, crate::specs::Rules::contents_tests))]
+fn admit(lending: &Lending) -> Result<(), Refusal>
+    ensures { decision_of result ≡ decide (contents_tests (given lending.now)) }
 {
-    if ITEM_LIMIT < driver_table.len() / DRIVER_ENTRY + payload_table.len() / PAYLOAD_ENTRY {
-        return Verdict::Refused(Refusal::PackItems);
+    if ITEM_LIMIT < lending.items() {
+        return Err(Refusal::PackItems);
     }
-    if !drivers_inside(drivers, driver_table) {
-        return Verdict::Refused(Refusal::PackPart);
+    if !drivers_inside(lending) || !payloads_inside(lending) {
+        return Err(Refusal::PackPart);
     }
-    if !payloads_inside(images, codes, payload_table) {
-        return Verdict::Refused(Refusal::PackPart);
+    if !drivers_filled(lending) {
+        return Err(Refusal::PackEmptyDriver);
     }
-    if !drivers_filled(driver_table) {
-        return Verdict::Refused(Refusal::PackEmptyDriver);
+    if !versions_right(lending) {
+        return Err(Refusal::PackVersion);
     }
-    if !versions_right(payload_table) {
-        return Verdict::Refused(Refusal::PackVersion);
+    if !instances_right(lending) {
+        return Err(Refusal::PackInstance);
     }
-    if !instances_right(payload_table) {
-        return Verdict::Refused(Refusal::PackInstance);
+    if !flags_right(lending.flags) {
+        return Err(Refusal::PackFlags);
     }
-    if !flags_right(flags) {
-        return Verdict::Refused(Refusal::PackFlags);
-    }
-    Verdict::Passed
+    Ok(())
 }
 
 // How many bytes the capsule would have; or the refusal, 50 to 56, the lowest that applies (C31). The drivers, images
 // and vendor codes are parts of three slices; the tables say which (C27).
-pub fn packed_size(
-    flags: u32,
-    drivers: &[u8],
-    driver_table: &[u8],
-    images: &[u8],
-    codes: &[u8],
-    payload_table: &[u8],
-) -> Packed
-    ensures { packed_reply result ≡ sized (lent flags drivers.now driver_table.now images.now
-        codes.now payload_table.now) }
+pub fn packed_size(lending: &Lending) -> Result<usize, Refusal>
+    ensures { reply_of result ≡ sized (given lending.now) }
 {
-    let verdict = admit(flags, drivers, driver_table, images, codes, payload_table);
-    match verdict {
-        Verdict::Refused(why) => Packed::Refused(why),
-        Verdict::Passed => {
-            let items = driver_table.len() / DRIVER_ENTRY + payload_table.len() / PAYLOAD_ENTRY;
-            let size = add_capped(FRONT + 8 * items, items_size(driver_table, payload_table));
-            if SIZE_CAP <= size {
-                return Packed::Refused(Refusal::PackSize);
-            }
-            Packed::Length(size)
-        }
+    admit(lending)?;
+    let size = add_capped(FRONT + 8 * lending.items(), items_size(lending));
+    if SIZE_CAP <= size {
+        return Err(Refusal::PackSize);
     }
+    Ok(size)
 }

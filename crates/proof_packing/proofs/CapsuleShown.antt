@@ -12,6 +12,7 @@ use Rattle.fields.proofs.Stacked.{behind, part_at}
 use Rattle.capsule_header.specs.Header.{body}
 use Rattle.capsule_body.specs.Body.{drivers, payloads, items}
 use Rattle.capsule_payloads.specs.Payload.{version, header_length, image_start, image_end, vendor_code_end}
+use Rattle.std.specs.Prelude.{Ok}
 use Rattle.capsule_check.specs.declared.Item.TheVariants.{Driver, Payload}
 use Rattle.capsule_check.specs.Item.{item_start_in, item_end_in, located}
 use Rattle.capsule_check.proofs.Places.{located_driver, located_payload}
@@ -19,7 +20,8 @@ use Rattle.capsule_items.specs.Items.{item_part}
 use Rattle.capsule_parts.specs.Parts.{image_part, vendor_code_part}
 use Rattle.capsule_counts.specs.Count.{driver_count, payload_count}
 use Rattle.capsule_values.specs.Shown.{shown, type_guid_of, image_index_of, hardware_instance_of}
-use Rattle.capsule_contents.specs.Contents.{PayloadContents, Contents, items_of, payload_header_bytes, payload_bytes, item_bytes, capsule_bytes}
+use Rattle.capsule_contents.specs.Contents.{PayloadContents, Contents, items_of}
+use Rattle.capsule_contents.specs.Contents.{payload_header_bytes, payload_bytes, item_bytes, capsule_bytes}
 use Rattle.capsule_contents.specs.Lent.{bytes_of}
 use Rattle.capsule_contents.proofs.Lengths.{payload_header_length, payload_length, capsule_length}
 use Rattle.proof_packing.specs.RoundTrip.{shown_payload, shown_contents, Same, place_of, Placed}
@@ -54,12 +56,12 @@ module _ (c : Contents) (good : Good c) where
     in_body : k < items (body s)
     in_body = rw (body_read c good, items_read c good) h
 
-    driver_located : k < c.drivers → located s k ≡ Driver (place_of c k) (place_of c (k + 1))
+    driver_located : k < c.drivers → located s k ≡ Ok (Driver (place_of c k) (place_of c (k + 1)))
     driver_located d =
         let e : k < drivers (body s) = rw (body_read c good, drivers_read c good) d in
         rw (located_driver s k (taken c good) in_body e, start_in, end_in)
 
-    payload_located : c.drivers ≤ k → located s k ≡ Payload (place_of c k) (place_of c (k + 1))
+    payload_located : c.drivers ≤ k → located s k ≡ Ok (Payload (place_of c k) (place_of c (k + 1)))
     payload_located d =
         let e : drivers (body s) ≤ k = rw (body_read c good, drivers_read c good) d in
         rw (located_payload s k (taken c good) in_body e, start_in, end_in)
@@ -102,7 +104,7 @@ module _ (c : Contents) (good : Good c) where
     in_items : k < items_of c
     in_items = omega arith
 
-    found : located s k ≡ Payload a e
+    found : located s k ≡ Ok (Payload a e)
     found = payload_located k in_items (omega arith)
 
     payload_part : part s a e ≡ q

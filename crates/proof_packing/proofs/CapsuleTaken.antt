@@ -16,7 +16,7 @@ use Rattle.fields.proofs.Number.{length_bytes}
 use Rattle.fields.proofs.Guid.{same_refl}
 use Rattle.fields.proofs.Words.{number_at}
 use Rattle.fields.proofs.Stacked.{behind}
-use Rattle.refusal_order.specs.declared.Verdict.TheVariants.{Passed}
+use Rattle.std.specs.Prelude.{Ok}
 use Rattle.capsule_header.specs.Header.{header_size, flags, capsule_image_size, sizes_right, fmp_guid, guid_right, body}
 use Rattle.capsule_body.specs.Body.{all, drivers, payloads, items, list_end, item}
 use Rattle.capsule_body.proofs.Body.{all_each}
@@ -82,7 +82,11 @@ module _ (c : Contents) (good : Good c) where
       let whole : capsule_image_size s ≡ length s = size_read ∙ sym (capsule_length c) in
       let in-it : header_size s ≤ capsule_image_size s = omega (arith, header_read, size_read) in
       let least : 28 ≤ header_size s = omega (arith, header_read) in
-      rw (le-leb 28 (header_size s) least, le-leb (header_size s) (capsule_image_size s) in-it, eq-eqb (capsule_image_size s) (length s) whole)
+      rw (
+        le-leb 28 (header_size s) least,
+        le-leb (header_size s) (capsule_image_size s) in-it,
+        eq-eqb (capsule_image_size s) (length s) whole,
+      )
 
   guid_right_lem : guid_right s ≡ true
   unfolding guid_right guid
@@ -112,11 +116,20 @@ module _ (c : Contents) (good : Good c) where
   unfolding payloads_right payload_at_right
   payloads_right_lem = each_payload payload_right (λ j h. payload_right_lem (c.payload j) (good.payload j h) (payload_small j h))
 
-  pub taken : verdict s ≡ Passed
+  pub taken : verdict s ≡ Ok tt
   unfolding verdict
   taken =
       let long : 28 ≤ length s = omega (arith, capsule_length c) in
-      rw (le-leb 28 (length s) long, sizes_right_lem, flags_read, good.persists, guid_right_lem, body_read, body_right_lem c good, payloads_right_lem)
+      rw (
+        le-leb 28 (length s) long,
+        sizes_right_lem,
+        flags_read,
+        good.persists,
+        guid_right_lem,
+        body_read,
+        body_right_lem c good,
+        payloads_right_lem,
+      )
 
   -- ---- tight
   first_at : offset_of c 0 ≡ list_end b

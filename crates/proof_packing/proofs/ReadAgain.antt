@@ -24,7 +24,8 @@ use Rattle.capsule_items.specs.Items.{item_part}
 use Rattle.capsule_parts.specs.Parts.{image_part, vendor_code_part}
 use Rattle.capsule_parts.proofs.Parts.{parts_lie}
 use Rattle.capsule_counts.specs.Count.{driver_count, payload_count}
-use Rattle.capsule_contents.specs.Lent.{contents_of, bytes_of, drivers_in, payloads_in, range_at, driver_at, payload_at, image_at, vendor_code_at}
+use Rattle.capsule_contents.specs.Lent.{contents_of, bytes_of, drivers_in, payloads_in, range_at}
+use Rattle.capsule_contents.specs.Lent.{driver_at, payload_at, image_at, vendor_code_at}
 use Rattle.capsule_packing_rules.specs.Rules.{inside, driver_inside, payload_inside, parts_inside}
 use Rattle.proof_packing.specs.RoundTrip.{Taken, shown_payload, shown_contents, Same, told_part, shown_entry, lent_again, Typed}
 use Rattle.capsule_body.proofs.Body.{all_each}

@@ -14,8 +14,8 @@ use Rattle.fields.proofs.Tests.{both}
 use Rattle.fields.proofs.Bytes.{take_bytes, drop_bytes, le_small}
 use Rattle.fields.proofs.Part.{part_length, part_part}
 use Rattle.refusals.specs.declared.Refusal.TheVariants.{CapsuleFlags, CapsuleGuid}
-use Rattle.refusal_order.specs.declared.Verdict.{Verdict}
-use Rattle.refusal_order.specs.declared.Verdict.TheVariants.{Passed}
+use Rattle.std.specs.Prelude.{Result, Ok}
+use Rattle.refusals.specs.declared.Refusal.{Refusal}
 use Rattle.capsule_header.specs.Header.{header_least, header_size, flags, capsule_image_size, sizes_right, flags_right, guid_right, body}
 use Rattle.capsule_header.proofs.Header.{size_told}
 use Rattle.capsule_body.specs.Body.{drivers, payloads, items, offset, item_end, item}
@@ -39,7 +39,7 @@ use Rattle.proof_packing.specs.RoundTrip.{Taken, shown_payload}
 use Rattle.proof_packing.proofs.PayloadAgain.{payload_in}
 
 -- what is shown of a payload, by its item
-abbrev payload_of : (s : List ℕ) → Item → PayloadContents
+abbrev payload_of : (s : List ℕ) → Result Item Refusal → PayloadContents
 payload_of s i =
     record {
       version = shown version 0 s i;
@@ -97,7 +97,7 @@ module _ (s : List ℕ) (taken : Taken s) where
         let within : a + vendor_code_end p ≤ e = omega (arith, inside.some) in
         let image = part_part s a e (image_start p) (image_end p) (omega arith) (omega arith) in
         let code = part_part s a e (image_end p) (vendor_code_end p) (omega arith) (omega arith) in
-        let parts : payload_of s (Payload a e) ≡ payload_in p =
+        let parts : payload_of s (Ok (Payload a e)) ≡ payload_in p =
         λ i.
         record {
           version = version p;

@@ -10,7 +10,8 @@ use Rattle.refusal_order.specs.Decide.{passed, refusal, decide, Reply, gives, re
 use Rattle.capsule_header.specs.Header.{flags_right}
 use Rattle.capsule_body.specs.Body.{all}
 use Rattle.capsule_payloads.specs.Payload.{version_right}
-use Rattle.capsule_contents.specs.Contents.{payload_header_bytes, payload_bytes, item_bytes, offset_of, body_bytes, header_bytes, capsule_bytes}
+use Rattle.capsule_contents.specs.Contents.{payload_header_bytes, payload_bytes, item_bytes, offset_of}
+use Rattle.capsule_contents.specs.Contents.{body_bytes, header_bytes, capsule_bytes}
 use Rattle.capsule_contents.specs.Lent.{Lent, lent}
 use Rattle.capsule_contents.specs.Contents.{size_limit}
 use Rattle.capsule_packing_rules.specs.Rules.{contents_tests, size_tests}

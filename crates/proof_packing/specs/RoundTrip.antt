@@ -1,12 +1,11 @@
 -- What is packed is taken by the reader and shows what was given, at its place (C34); a tight capsule that is read is
 -- packed again to the same bytes (C35 to C37). s is the bytes of a capsule, x what is lent to the packer. Assumes
 -- nothing.
-use Rattle.std.specs.Prelude.{ℕ, ◌+◌, ◌-◌, ◌^◌, ◌<◌, ◌≤◌, ◌≡◌, true, List, [], ◌∷◌, ◌++◌, length, take}
+use Rattle.std.specs.Prelude.{ℕ, ◌+◌, ◌-◌, ◌^◌, ◌<◌, ◌≤◌, ◌≡◌, true, Ok, List, [], ◌∷◌, ◌++◌, length, take}
 use Rattle.fields.specs.Number.{Bytes, bytes, put}
 use Rattle.fields.specs.Part.{part, Range, range}
 use Rattle.fields.specs.Joined.{joined}
 use Rattle.refusal_order.specs.Decide.{Reply, gives}
-use Rattle.refusal_order.specs.declared.Verdict.TheVariants.{Passed}
 use Rattle.capsule_header.specs.Header.{header_least, flags}
 use Rattle.capsule_payloads.specs.Payload.{version, header_length}
 use Rattle.capsule_check.specs.Verdict.{verdict}
@@ -23,7 +22,7 @@ use Rattle.proof_packing.specs.Tight.{tight}
 
 -- the reader takes s: it gives none of 10 to 15
 abbrev pub Taken : (s : List ℕ) → Type 0
-Taken s = verdict s ≡ Passed
+Taken s = verdict s ≡ Ok tt
 
 -- ---- what is shown of a capsule
 -- payload j, by what the reader's entries show of its item, and by its version, which no entry shows: it is read in the

@@ -1,17 +1,12 @@
--- `drivers_inside` meets its contract: every part passed lies in the slice. Assumes nothing.
-use mathlib.Core.Path.{sym, ◌∙◌}
-use Prim.Native.Nat.{◌-◌}
-use Rattle.capsule_packing_rules.proofs.Loops.{passed_none, passed_more, passed_stop, passed_all}
+-- `drivers_inside` meets its contract: the test holds of every one. Assumes nothing.
+use Rattle.std.proofs.Common.{rules, tests, arith}
+use Rattle.capsule_body.proofs.Ranged.{all_from_Range}
+use Rattle.capsule_contents.specs.Lent.{drivers_in}
+use Rattle.capsule_packing_rules.specs.Rules.{driver_inside}
 use Rattle.capsule_packing_rules.proofs.drivers_inside.Goals as goal
 
-pub loop-k-init : goal.loop-k-init
-loop-k-init c = passed_none
-
-pub returns-then-not-part_inside : goal.returns-then-not-part_inside
-returns-then-not-part_inside c = passed_stop c.loop-k.invariant c.loop-k-test.true (sym c.part_inside.ensures ∙ c.if-not-part_inside.true)
-
-pub loop-k-preserved : goal.loop-k-preserved
-loop-k-preserved c = passed_more c.loop-k.invariant c.loop-k-test.true (sym c.part_inside.ensures ∙ c.if-not-part_inside.false)
-
 pub returns : goal.returns
-returns c = passed_all c.loop-k.invariant c.loop-k-test.false
+returns c =
+    let x = c.args.lending.now in
+    all_from_Range (driver_inside x.drivers.now x.driver_table.now) (drivers_in x.driver_table.now)
+    c.all.ensures.ran (omega arith) (λ x t q k. search (rules, tests))

@@ -1,29 +1,23 @@
 -- `packed_size` meets its contract. Assumes nothing.
-use mathlib.Core.Path.{◌≡◌, sym, ap, ◌∙◌}
-use native.Mathlib.Omega.{arith}
-use Rattle.refusal_order.specs.Decide.{decision_of, passed, decide}
-use Rattle.capsule_contents.specs.Lent.{lent}
-use Rattle.capsule_contents.specs.Sizes.{cap}
-use Rattle.capsule_packing_rules.specs.Rules.{contents_tests, capsule_size}
-use Rattle.capsule_packing_rules.proofs.Steps.{contents_refused, few, size_worked, size_refused, size_given}
+use mathlib.Core.Path.{◌≡◌}
+use Rattle.std.proofs.Common.{rules}
+use Rattle.refusal_order.specs.Decide.{passed, decide}
+use Rattle.capsule_contents.specs.Given.{given}
+use Rattle.capsule_packing_rules.specs.Rules.{contents_tests}
+use Rattle.capsule_packing_rules.proofs.Steps.{contents_refused, size_refused, size_given}
 use Rattle.capsule_packing_rules.proofs.packed_size.Goals as goal
 
-pub add_capped-size-requires : goal.add_capped-size-requires
-add_capped-size-requires c =
-    let fine : passed ≡ decide (contents_tests (lent c.args.flags c.args.drivers.now c.args.driver_table.now c.args.images.now c.args.codes.now c.args.payload_table.now)) = ap decision_of (sym c.in-Passed.is) ∙ c.admit-verdict.ensures in
-    omega (arith, few (lent c.args.flags c.args.drivers.now c.args.driver_table.now c.args.images.now c.args.codes.now c.args.payload_table.now) fine)
+pub returns-in_err-admit : goal.returns-in_err-admit
+returns-in_err-admit c = search (rules, contents_refused)
 
 pub returns-then-size-ge-SIZE_CAP : goal.returns-then-size-ge-SIZE_CAP
 returns-then-size-ge-SIZE_CAP c =
-    let fine : passed ≡ decide (contents_tests (lent c.args.flags c.args.drivers.now c.args.driver_table.now c.args.images.now c.args.codes.now c.args.payload_table.now)) = ap decision_of (sym c.in-Passed.is) ∙ c.admit-verdict.ensures in
-    let worked : c.add_capped-size.result ≡ cap (capsule_size (lent c.args.flags c.args.drivers.now c.args.driver_table.now c.args.images.now c.args.codes.now c.args.payload_table.now)) = size_worked (lent c.args.flags c.args.drivers.now c.args.driver_table.now c.args.images.now c.args.codes.now c.args.payload_table.now) fine _ _ c.add_capped-size.ensures c.items_size.ensures in
-    size_refused (lent c.args.flags c.args.drivers.now c.args.driver_table.now c.args.images.now c.args.codes.now c.args.payload_table.now) fine _ worked c.if-size-ge-SIZE_CAP.true
+    let x = given c.args.lending.now in
+    let fine : passed ≡ decide (contents_tests x) = search rules in
+    size_refused x fine _ _ _ c.add_capped-size.ensures c.items.ensures c.items_size.ensures c.if-size-ge-SIZE_CAP.true
 
-pub returns-in-Refused : goal.returns-in-Refused
-returns-in-Refused c = contents_refused (lent c.args.flags c.args.drivers.now c.args.driver_table.now c.args.images.now c.args.codes.now c.args.payload_table.now) c.in-Refused.why (ap decision_of (sym c.in-Refused.is) ∙ c.admit-verdict.ensures)
-
-pub returns-else-size-ge-SIZE_CAP : goal.returns-else-size-ge-SIZE_CAP
-returns-else-size-ge-SIZE_CAP c =
-    let fine : passed ≡ decide (contents_tests (lent c.args.flags c.args.drivers.now c.args.driver_table.now c.args.images.now c.args.codes.now c.args.payload_table.now)) = ap decision_of (sym c.in-Passed.is) ∙ c.admit-verdict.ensures in
-    let worked : c.add_capped-size.result ≡ cap (capsule_size (lent c.args.flags c.args.drivers.now c.args.driver_table.now c.args.images.now c.args.codes.now c.args.payload_table.now)) = size_worked (lent c.args.flags c.args.drivers.now c.args.driver_table.now c.args.images.now c.args.codes.now c.args.payload_table.now) fine _ _ c.add_capped-size.ensures c.items_size.ensures in
-    size_given (lent c.args.flags c.args.drivers.now c.args.driver_table.now c.args.images.now c.args.codes.now c.args.payload_table.now) fine _ worked c.if-size-ge-SIZE_CAP.false
+pub returns : goal.returns
+returns c =
+    let x = given c.args.lending.now in
+    let fine : passed ≡ decide (contents_tests x) = search rules in
+    size_given x fine _ _ _ c.add_capped-size.ensures c.items.ensures c.items_size.ensures c.if-size-ge-SIZE_CAP.false

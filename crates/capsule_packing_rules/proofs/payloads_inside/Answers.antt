@@ -1,24 +1,12 @@
--- `payloads_inside` meets its contract: of every payload passed, both parts lie in their slices. Assumes nothing.
-use mathlib.Core.Path.{sym, ◌∙◌}
-use Prim.Native.Nat.{◌-◌}
-use Rattle.capsule_packing_rules.proofs.Loops.{passed_none, passed_more, passed_stop, passed_all}
+-- `payloads_inside` meets its contract: the test holds of every one. Assumes nothing.
+use Rattle.std.proofs.Common.{rules, tests, arith}
+use Rattle.capsule_body.proofs.Ranged.{all_from_Range}
+use Rattle.capsule_contents.specs.Lent.{payloads_in}
+use Rattle.capsule_packing_rules.specs.Rules.{payload_inside}
 use Rattle.capsule_packing_rules.proofs.payloads_inside.Goals as goal
 
-pub loop-j-init : goal.loop-j-init
-loop-j-init c = passed_none
-
-pub returns-then-not-part_inside : goal.returns-then-not-part_inside
-returns-then-not-part_inside c = passed_stop c.loop-j.invariant c.loop-j-test.true (rw (sym c.part_inside.ensures ∙ c.if-not-part_inside.true))
-
-pub returns-then-not-part_inside-2 : goal.returns-then-not-part_inside-2
-returns-then-not-part_inside-2 c =
-    passed_stop c.loop-j.invariant c.loop-j-test.true
-    (rw (sym c.part_inside.ensures ∙ c.if-not-part_inside.false) (sym c.part_inside-in-loop-j.ensures ∙ c.if-not-part_inside-2.true))
-
-pub loop-j-preserved : goal.loop-j-preserved
-loop-j-preserved c =
-    passed_more c.loop-j.invariant c.loop-j-test.true
-    (rw (sym c.part_inside.ensures ∙ c.if-not-part_inside.false) (sym c.part_inside-in-loop-j.ensures ∙ c.if-not-part_inside-2.false))
-
 pub returns : goal.returns
-returns c = passed_all c.loop-j.invariant c.loop-j-test.false
+returns c =
+    let x = c.args.lending.now in
+    all_from_Range (payload_inside x.images.now x.codes.now x.payload_table.now) (payloads_in x.payload_table.now)
+    c.all.ensures.ran (omega arith) (λ x t q k. search (rules, tests))
