@@ -1,5 +1,5 @@
 -- `list_repair` meets its contract: the record read is written as it stands. Assumes nothing.
-use mathlib.Core.Path.{◌≡◌, sym, ◌∙◌}
+use mathlib.Core.Path.{◌≡◌}
 use borrow.Author.Rules.{rules}
 use Rattle.record_layout.specs.Layout.{copy_at}
 use Rattle.record_layout.proofs.Sound.{sound_sized}
@@ -13,7 +13,7 @@ use Rattle.record_store_lists.proofs.list_repair.Goals as goal
 use Rattle.record_store_lists.proofs.list_repair.Goals.{in-Copy0-2, in-Copy1}
 
 pub returns-in-Copy0 : goal.returns-in-Copy0
-returns-in-Copy0 c = at_front_none _ c.args.out.now (repair_none c.args.area.now (sym c.if-second_agrees.true ∙ c.second_agrees.ensures))
+returns-in-Copy0 c = at_front_none _ c.args.out.now (repair_none c.args.area.now (cc))
 
 pub new-requires : goal.new-requires
 new-requires c =
@@ -31,7 +31,7 @@ returns c =
     let ss = plan base (copy_at base A) (record_read A) in
     let stores : repair_stores A ≡ ss =
     elim c.match-from.branch [
-      | in-Copy0-2 w ↦ rw w.base-is (repair_copy1 A (cc) (sym w.if-second_agrees.false ∙ w.second_agrees.ensures))
+      | in-Copy0-2 w ↦ rw w.base-is (repair_copy1 A (cc) (cc))
       | in-Copy1 w ↦ rw w.base-is (repair_copy0 A cc)
     ] in
     let listed : Added 0 l1.pairs ss a.out.now l1.out.now =
