@@ -2,5 +2,4 @@
 pub mod Places
 pub mod Words
 pub mod Same
-pub mod Walk
 pub mod Stays

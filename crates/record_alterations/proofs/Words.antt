@@ -1,8 +1,8 @@
 -- The words of an altered record. Assumes nothing.
-use mathlib.Core.Path.{◌≡◌, refl, ap, ◌∙◌}
+use mathlib.Core.Path.{◌≡◌, refl, sym, ap, ◌∙◌}
 use mathlib.Core.List.{List}
 use mathlib.Core.Logic.{◌⊎◌, inl, inr, ⊎_elim}
-use Prim.Native.Nat.{ℕ, zero, suc, ◌+◌, ◌*◌, ◌/◌, ◌<◌, ◌≤◌}
+use Prim.Native.Nat.{ℕ, zero, suc, ◌+◌, ◌*◌, ◌-◌, ◌/◌, ◌%◌, ◌<◌, ◌≤◌}
 use native.Mathlib.Omega.{arith}
 use lib.ListN.{length, drop}
 use Rattle.fields.specs.Number.{Bytes, le, bytes, put}
@@ -10,12 +10,12 @@ use Rattle.fields.proofs.Tests.{le_or_lt}
 use Rattle.fields.proofs.Put.{read_back}
 use Rattle.fields.proofs.Bytes.{bytes_small, put_bytes, word_length, word_apart}
 use Rattle.record_crc.specs.Crc.{crc32_of}
-use Rattle.record_layout.specs.Layout.{version_at, bank_count, image_count, record_size, accepted_at}
+use Rattle.record_layout.specs.Layout.{version_at, bank_count, image_count, entry_size, record_size, accepted_at}
 use Rattle.record_layout.proofs.Sizes.{header_in}
 use Rattle.record_alterations.specs.Fields.{set_active, set_previous, set_accepted, with_crc}
-use Rattle.record_alterations.specs.Altered.{flagged, altered_by, record_with, Alterable}
+use Rattle.record_alterations.specs.Altered.{flagged, altered_by, record_with, Alterable, Word}
 use Rattle.record_alterations.specs.declared.Alteration.{Alteration}
-use Rattle.record_alterations.proofs.Places.{words_apart, place_in, place_before, place_apart}
+use Rattle.record_alterations.proofs.Places.{words_apart, place_in, place_before, place_apart, place_told, place_of}
 
 -- ---- the words of the header
 module _ (active previous states : ℕ) (r : List ℕ) (long : 40 ≤ length r) where
@@ -197,6 +197,29 @@ module _ (x : Alteration) (r : List ℕ) (banks : ℕ) (a : Alterable x r banks)
   pub altered_flag : (j : ℕ) → x.flag < 4294967296 → j < x.count → le 4 (altered_by x r) (accepted_at banks (x.first + j) x.bank) ≡ x.flag
   altered_flag j small lt =
       rw altered_is (flagged_hit head banks (image_count r) x.first x.bank x.flag sized has bank_below x.count j a.within.images small lt)
+
+  -- told by the offset, which says the image and the place in its entry
+  module _ (o size : ℕ) (w : Word r 40 o) (e : size ≡ entry_size banks) where
+    abbrev image : ℕ
+    image = (o - 40) / size
+
+    pub entry_other : ((o - 40) % size ≡ 32 + 24 * x.bank + 16 → x.first ≤ image → image < x.first + x.count → ⊥)
+        → le 4 r o ≡ le 4 (altered_by x r) o
+    entry_other other =
+        sym
+        (altered_miss o w.low w.whole (λ j lt at.
+        let q = place_told banks x.bank bank_below (x.first + j) o at in
+        let i : image ≡ x.first + j = rw e q.0 in
+        other (rw e q.1) (omega (arith, i)) (omega (arith, i))))
+
+    pub entry_flag : x.flag < 4294967296 → (o - 40) % size ≡ 32 + 24 * x.bank + 16 → x.first ≤ image → image < x.first + x.count
+        → x.flag ≡ le 4 (altered_by x r) o
+    entry_flag small m low high =
+        let at : o ≡ accepted_at banks image x.bank = rw e (place_of banks x.bank bank_below o w.low (rw e at m)) in
+        let i : image ≡ x.first + (image - x.first) = omega (arith, low) in
+        sym
+        (ap (λ (o : ℕ). le 4 (altered_by x r) o) (at ∙ ap (λ (n : ℕ). accepted_at banks n x.bank) i)
+        ∙ altered_flag (image - x.first) small (omega (arith, low, high)))
 
   -- the same with its CRC
   room : 0 + 4 ≤ length (altered_by x r)

@@ -1,11 +1,10 @@
 -- What an alteration makes of a record, and what the functions over it ask. Nothing here is needed to read an entry's
 -- promise. r is the bytes of a record. Assumes nothing.
-use Rattle.std.specs.Prelude.{ℕ, zero, suc, ◌+◌, ◌*◌, ◌/◌, ◌≤◌, ◌<◌, true, List, ◌≡◌, length}
+use Rattle.std.specs.Prelude.{ℕ, zero, suc, ◌+◌, ◌*◌, ◌/◌, ◌≤◌, ◌<◌, List, ◌≡◌, length}
 use Rattle.fields.specs.Number.{le, bytes, put}
-use Rattle.record_layout.specs.Layout.{area_size, state_at, crc, active, previous, bank_count, image_count}
+use Rattle.record_layout.specs.Layout.{state_at, crc, active, previous, bank_count, image_count}
 use Rattle.record_layout.specs.Rules.{crc_of}
 use Rattle.record_layout.specs.Sized.{Sized}
-use Rattle.record_stores.specs.Stores.{Store, store_numbers, with_list}
 use Rattle.record_alterations.specs.declared.Alteration.{Alteration}
 use Rattle.record_alterations.specs.Fields.{set_active, set_previous, set_accepted, with_crc}
 

@@ -8,57 +8,42 @@ ghost use Rattle.record_layout.specs.Layout.{area_size, copy_size, copy_at};
 ghost use Rattle.record_layout.specs.Rules.{crc_of};
 ghost use Rattle.record_stores.specs.Stores.{offsets, plan, store_numbers};
 ghost use Rattle.record_stores.specs.Added.{Added, stored, Listable, copy_pairs};
-ghost use Rattle.record_alterations.specs.Altered.{altered_by, record_with, Alterable};
+ghost use Rattle.record_alterations.specs.Altered.{altered_by, record_with};
 
 use fields::read32;
-use record_alterations::{Alteration, new_word};
-use record_layout::{ACTIVE_AT, COPY, CRC_AT, VERSION_AT, version};
-use record_stores::{put_differing, put_pair};
+use record_alterations::Altered;
+use record_layout::{COPY, CRC_AT, VERSION_AT};
+use record_stores::StoreList;
 
-// The new record's words behind its version where the copy c holds another.
-fn put_words(
-    c: &[u8],
-    r: &[u8],
-    banks: usize,
-    x: Alteration,
-    base: u32,
-    out: &mut [u32],
-    k: usize,
-) -> usize
-    requires { Alterable x r.now banks × Listable c.now r.now base k (length out.old) }
-    ensures { Added k result (stored base c.now (record_with x r.now) (offsets 8 (length r.now / 4 - 2)))
-        out.old out.new × (result ≤ k + (length r.now / 4 - 2)) }
+// The new record's words behind its version where the copy c, which stands at base, holds another.
+fn put_words(c: &[u8], base: u32, new: &Altered, list: &mut StoreList)
+    requires { Listable c.now new.now.r.now base list.old.pairs (length list.old.out.now) }
+    ensures same_reference { list.new.out.ghost_name ≡ list.old.out.ghost_name }
+    ensures added { Added list.old.pairs list.new.pairs
+        (stored base c.now (record_with new.now.x new.now.r.now) (offsets 8 (length new.now.r.now / 4 - 2)))
+        list.old.out.now list.new.out.now }
+    ensures few { list.new.pairs ≤ list.old.pairs + (length new.now.r.now / 4 - 2) }
 {
-    let mut j = k;
-    let mut o = ACTIVE_AT;
-    while o < r.len() {
-        j = put_differing(read32(c, o), new_word(r, banks, x, o), base, out, j, o);
-        o += 4;
+    for k in 2..new.r.len() / 4 {
+        let o = 4 * k;
+        list.push_differing(read32(c, o), new.word(o), base, o);
     }
-    j
 }
 
-// Lists the stores that put the new record into the copy that stands at base, behind the k pairs that out has. crc is
-// the new record's.
-pub fn put_copy(
-    area: &[u8],
-    base: usize,
-    r: &[u8],
-    banks: usize,
-    x: Alteration,
-    crc: u32,
-    out: &mut [u32],
-    k: usize,
-) -> usize
-    requires { Alterable x r.now banks × (crc ≡ crc_of (altered_by x r.now)) × (length area.now ≡ area_size)
-        × (base ≤ copy_size) × (k ≤ copy_pairs) × (store_numbers ≤ length out.old) }
-    ensures { Added k result (plan base (copy_at base area.now) (record_with x r.now))
-        out.old out.new × (result ≤ k + copy_pairs) }
+// Lists the stores that put the new record into the copy that stands at base, behind those that the list has. crc is the
+// new record's.
+pub fn put_copy(area: &[u8], base: usize, new: &Altered, crc: u32, list: &mut StoreList)
+    requires { (crc ≡ crc_of (altered_by new.now.x new.now.r.now)) × (length area.now ≡ area_size) × (base ≤ copy_size)
+        × (list.old.pairs ≤ copy_pairs) × (store_numbers ≤ length list.old.out.now) }
+    ensures same_reference { list.new.out.ghost_name ≡ list.old.out.ghost_name }
+    ensures added { Added list.old.pairs list.new.pairs (plan base (copy_at base area.now) (record_with new.now.x new.now.r.now))
+        list.old.out.now list.new.out.now }
+    ensures few { list.new.pairs ≤ list.old.pairs + copy_pairs }
 {
     let c = &area[base..base + COPY];
     let at = base as u32;
-    let spoilt = put_pair(out, k, at + VERSION_AT as u32, 0);
-    let second = put_differing(read32(c, CRC_AT), crc, at, out, spoilt, CRC_AT);
-    let third = put_words(c, r, banks, x, at, out, second);
-    put_pair(out, third, at + VERSION_AT as u32, version(r))
+    list.push(at + VERSION_AT as u32, 0);
+    list.push_differing(read32(c, CRC_AT), crc, at, CRC_AT);
+    put_words(c, at, new, list);
+    list.push(at + VERSION_AT as u32, new.word(VERSION_AT));
 }

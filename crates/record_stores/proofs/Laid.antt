@@ -6,7 +6,6 @@ use Prim.Native.Nat.{ℕ, zero, suc, ◌+◌, ◌*◌, ◌-◌, ◌/◌, ◌≤�
 use native.Mathlib.Numerals.{add-one}
 use native.Mathlib.Omega.{arith}
 use lib.Dec.{eqb}
-use borrow.Author.Tests.{eq-eqb, ne_eqb}
 use lib.ListN.{length, drop, set, length-set, length-append, length-drop}
 use lib.Seq.{sets-eq, take_at, drop_at, drop-drop}
 use Rattle.fields.specs.Number.{le}
@@ -50,15 +49,14 @@ with_list_snoc d ss o w h =
 pub added_none : (k : ℕ) (out : List ℕ) → Added k k [] out out
 added_none k out = record { count = omega arith; kept = refl; adds = λ d ss n l e. rw append-nil e }
 
-pub added_one : (k : ℕ) (out new : List ℕ) (o w : ℕ) → 2 * k + 2 ≤ length out → new ≡ set (set out (2 * k) o) (2 * k + 1) w
-    → Added k (k + 1) ((o, w) ∷ []) out new
-added_one k out new o w h q =
+pub added_one : (k : ℕ) (out : List ℕ) (o w : ℕ) → 2 * k + 2 ≤ length out
+    → Added k (k + 1) ((o, w) ∷ []) out (set (set out (2 * k) o) (2 * k + 1) w)
+added_one k out o w h =
     record {
       count = refl;
-      kept = rw q (simp length-set);
+      kept = simp length-set;
       adds = λ d ss n l e.
-          q
-          ∙ ap (λ (z : List ℕ). set (set z (2 * k) o) (2 * k + 1) w) e
+          ap (λ (z : List ℕ). set (set z (2 * k) o) (2 * k + 1) w) e
           ∙ ap (λ (j : ℕ). set (set (with_list d ss) (2 * j) o) (2 * j + 1) w) (sym n)
           ∙ with_list_snoc d ss o w (omega arith);
     }
@@ -92,15 +90,7 @@ module _ (c r : List ℕ) where
   pub stored_append : (base : ℕ) (xs ys : List ℕ) → stored base c r (xs ++ ys) ≡ stored base c r xs ++ stored base c r ys
   stored_append base xs ys = rw (differing_append xs ys, map-append, map-append)
 
--- one word, and one offset
-pub word_equal : (base o old w : ℕ) → old ≡ w → word_store base o old w ≡ []
-unfolding word_store
-word_equal base o old w e = rw (eq-eqb old w e)
-
-pub word_differs : (base o old w : ℕ) → (old ≡ w → ⊥) → word_store base o old w ≡ ((base + o, w) ∷ [])
-unfolding word_store
-word_differs base o old w e = rw (ne_eqb old w e)
-
+-- one offset
 pub stored_one : (base : ℕ) (c r : List ℕ) (o : ℕ) → word_store base o (le 4 c o) (le 4 r o) ≡ stored base c r (o ∷ [])
 unfolding word_store differing
 stored_one base c r o = go (eqb (le 4 c o) (le 4 r o))
@@ -124,15 +114,14 @@ pub offsets_none : (c r : List ℕ) (base : ℕ) → stored base c r (offsets 8 
 unfolding offsets differing
 offsets_none c r base = refl
 
--- a turn of the loop
-pub added_more : (base : ℕ) (c r : List ℕ) (k j n o : ℕ) (out new last : List ℕ) → 8 ≤ o → o ≡ 8 + 4 * ((o - 8) / 4)
-    → Added k j (stored base c r (offsets 8 ((o - 8) / 4))) out new
+-- a turn of the loop, which stands behind m words from 8 on
+pub added_more : (base : ℕ) (c r : List ℕ) (k j n m o : ℕ) (out new last : List ℕ) → o ≡ 8 + 4 * m
+    → Added k j (stored base c r (offsets 8 m)) out new
     → Added j n (stored base c r (o ∷ [])) new last
-    → Added k n (stored base c r (offsets 8 ((o + 4 - 8) / 4))) out last
-added_more base c r k j n o out new last low e p q =
-    let z : (o + 4 - 8) / 4 ≡ (o - 8) / 4 + 1 = omega arith in
-    rw (z, offsets_more ((o - 8) / 4) o e, stored_append c r base (offsets 8 ((o - 8) / 4)) (o ∷ []))
-    (added_then k j n (stored base c r (offsets 8 ((o - 8) / 4))) (stored base c r (o ∷ [])) out new last p q)
+    → Added k n (stored base c r (offsets 8 (m + 1))) out last
+added_more base c r k j n m o out new last e p q =
+    rw (offsets_more m o e, stored_append c r base (offsets 8 m) (o ∷ []))
+    (added_then k j n (stored base c r (offsets 8 m)) (stored base c r (o ∷ [])) out new last p q)
 
 -- the whole plan, in its parts
 pub plan_parts : (base : ℕ) (c r : List ℕ)

@@ -1,58 +1,41 @@
 -- `list_repair` meets its contract: the record read is written as it stands. Assumes nothing.
-use mathlib.Core.Path.{◌≡◌, sym, ◌∙◌}
-use native.Mathlib.Omega.{arith}
-use Rattle.record_layout.specs.Layout.{copy_size, copy0, copy1}
-use Rattle.record_layout.specs.Rules.{crc_of}
-use Rattle.record_layout.proofs.Sound.{sound_sized, sound_long}
-use Rattle.record_copies.specs.Copies.{read_from}
-use Rattle.record_copies.proofs.Reading.{is_copy1}
+use mathlib.Core.Path.{◌≡◌}
+use borrow.Author.Rules.{rules}
+use Rattle.record_layout.specs.Layout.{copy_at}
+use Rattle.record_layout.proofs.Sound.{sound_sized}
+use Rattle.record_copies.specs.Copies.{record_read}
 use Rattle.record_stores.specs.Stores.{plan}
-use Rattle.record_alterations.specs.Altered.{altered_by, record_with, Alterable}
+use Rattle.record_stores.specs.Added.{Added}
+use Rattle.record_store_lists.specs.ChangeStores.{repair_stores}
+use Rattle.record_store_lists.specs.Lists.{AtFront}
 use Rattle.record_store_lists.proofs.Listing.{at_front, at_front_none, repair_none, repair_copy0, repair_copy1}
 use Rattle.record_store_lists.proofs.list_repair.Goals as goal
-
-pub bank_count-banks-requires : goal.bank_count-banks-requires
-bank_count-banks-requires c = sound_long c.read_record-r.result.now c.read_record-r.ensures.1
-
-pub read32-crc-requires : goal.read32-crc-requires
-read32-crc-requires c =
-    let e = c.read_record-r in
-    omega (arith, sound_long e.result.now e.ensures.1)
-
-pub second_agrees-requires : goal.second_agrees-requires
-second_agrees-requires c = (c.requires.0, sym c.requires.1 ∙ c.in-Copy0.is)
-
-pub returns-then-second_agrees : goal.returns-then-second_agrees
-returns-then-second_agrees c = at_front_none _ c.args.out.now (repair_none c.args.area.now (sym c.if-second_agrees.true ∙ c.second_agrees.ensures))
-
-pub put_copy-requires : goal.put_copy-requires
-put_copy-requires c =
-    let can : Alterable c.unaltered-x.result c.read_record-r.result.now c.bank_count-banks.result × (c.read32-crc.result ≡ crc_of (altered_by c.unaltered-x.result c.read_record-r.result.now)) = let e = c.read_record-r in (
-      rw c.bank_count-banks.ensures (record { sized = sound_sized e.result.now e.ensures.1; within = c.unaltered-x.ensures.within }),
-      c.read32-crc.ensures ∙ c.unaltered-x.ensures.crc_is,
-    ) in
-    (can.0, can.1, c.requires.0, omega arith, omega arith, c.requires.3)
+use Rattle.record_store_lists.proofs.list_repair.Goals.{in-Copy0-2, in-Copy1}
 
 pub returns-in-Copy0 : goal.returns-in-Copy0
-returns-in-Copy0 c =
-    let same : record_with c.unaltered-x.result c.read_record-r.result.now ≡ read_from c.args.from c.args.area.now = c.unaltered-x.ensures.stays ∙ c.read_record-r.ensures.0 in
-    let a = c.args in
-    let A = a.area.now in
-    rw (repair_copy1 A a.from c.requires.1 c.in-Copy0.is (sym c.if-second_agrees.false ∙ c.second_agrees.ensures), ← same)
-    (at_front c.put_copy.result (plan copy_size (copy1 A) _) a.out.now c.put_copy.new.out c.put_copy.ensures.0)
+returns-in-Copy0 c = at_front_none _ c.args.out.now (repair_none c.args.area.now (cc))
 
-pub put_copy-requires-2 : goal.put_copy-requires-2
-put_copy-requires-2 c =
-    let can : Alterable c.unaltered-x.result c.read_record-r.result.now c.bank_count-banks.result × (c.read32-crc.result ≡ crc_of (altered_by c.unaltered-x.result c.read_record-r.result.now)) = let e = c.read_record-r in (
-      rw c.bank_count-banks.ensures (record { sized = sound_sized e.result.now e.ensures.1; within = c.unaltered-x.ensures.within }),
-      c.read32-crc.ensures ∙ c.unaltered-x.ensures.crc_is,
-    ) in
-    (can.0, can.1, c.requires.0, omega arith, omega arith, c.requires.3)
+pub new-requires : goal.new-requires
+new-requires c =
+    let e = c.read_record-r in
+    record { sized = sound_sized e.result.now e.ensures.1; within = c.unaltered.ensures.within }
 
 pub returns : goal.returns
 returns c =
-    let same : record_with c.unaltered-x.result c.read_record-r.result.now ≡ read_from c.args.from c.args.area.now = c.unaltered-x.ensures.stays ∙ c.read_record-r.ensures.0 in
     let a = c.args in
     let A = a.area.now in
-    rw (repair_copy0 A a.from c.requires.1 (is_copy1 a.from c.in_default.not-Copy0 c.requires.2), ← same)
-    (at_front c.put_copy-2.result (plan 0 (copy0 A) _) a.out.now c.put_copy-2.new.out c.put_copy-2.ensures.0)
+    let base = c.match-from.base in
+    let l0 = c.new-list.result in
+    let l1 = c.put_copy.new.list in
+    let n = c.new in
+    let ss = plan base (copy_at base A) (record_read A) in
+    let stores : repair_stores A ≡ ss =
+    elim c.match-from.branch [
+      | in-Copy0-2 w ↦ rw w.base-is (repair_copy1 A (cc) (cc))
+      | in-Copy1 w ↦ rw w.base-is (repair_copy0 A cc)
+    ] in
+    let listed : Added 0 l1.pairs ss a.out.now l1.out.now =
+    rw (c.new-list.ensures.empty.0, c.new-list.ensures.empty.1, n.ensures.0, n.ensures.1, c.unaltered.ensures.stays, c.read_record-r.ensures.0) at c.put_copy.ensures.added in
+    let front : AtFront c.pairs.result (repair_stores A) a.out.now l1.out.now =
+    rw (stores, c.pairs.ensures) (at_front l1.pairs ss a.out.now l1.out.now listed) in
+    search (rules, front)
