@@ -3,3 +3,4 @@ pub mod Sizes
 pub mod Below
 pub mod Sound
 pub mod Copies
+pub mod Ranged
