@@ -12,6 +12,7 @@ use record_stores::STORE_NUMBERS;
 use refusals::Refusal;
 
 // 20, 23, 21 and 22, in that order.
+#[tactic(auto, unfolding(refusal_order::specs::Decide::decide, crate::specs::Rows::area_tests, crate::specs::Rows::repair_tests))]
 pub fn admit_area(area: &[u8], numbers: usize) -> Result<(), Refusal>
     ensures { decision_of result ≡ decide (area_tests area.now numbers) }
 {
@@ -21,10 +22,8 @@ pub fn admit_area(area: &[u8], numbers: usize) -> Result<(), Refusal>
     if numbers < STORE_NUMBERS {
         return Err(Refusal::StoreSlice);
     }
-    let from = read_source(area).ok_or(Refusal::NoSoundCopy)?;
-    if from == Source::Copy0 && second_agrees(area) {
-        Ok(())
-    } else {
-        Err(Refusal::NotSoundAndEqual)
+    match read_source(area).ok_or(Refusal::NoSoundCopy)? {
+        Source::Copy0 if second_agrees(area) => Ok(()),
+        _ => Err(Refusal::NotSoundAndEqual),
     }
 }
