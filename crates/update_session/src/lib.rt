@@ -1,4 +1,3 @@
-READ /work/h_update/READ-ME-NOW.md AT ONCE (an amendment to your brief)
 // The session and the six calls (S1, S5 to S18). Each call tests in the order of N110: what is tested for every session
 // first, once and before the call looks at which session it is, then its own; a refusal leaves the session as it was,
 // with no list.

@@ -14,6 +14,6 @@ use Rattle.update_admission.proofs.Area.{one_sound}
 use Rattle.update_start_up.specs.StartUp.{started_from, start_up_tests, start_up_of}
 
 -- where a record is read, start-up answers by it
-pub read_by : (a : List ℕ) (booted : ℕ) → length a ≡ area_size → source_of a ≢ Neither → start_up_of a booted ≡ started_from (record_read a) booted
+pub read_by : (a : List ℕ) (booted : ℕ) → length a ≡ area_size → source_of a ≡ Some x → start_up_of a booted ≡ started_from (record_read a) booted
 unfolding start_up_of start_up_tests read_tests started_from decide
 read_by a booted l n = rw (eq-eqb (length a) area_size l, one_sound a n)
