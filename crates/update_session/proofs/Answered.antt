@@ -1,5 +1,5 @@
 -- What a call knows once its tests found no fault, and what it answers at each way out. Assumes nothing.
-use mathlib.Core.Path.{◌≡◌, refl, sym, ap, ◌∙◌}
+use mathlib.Core.Path.{◌≡◌, refl, sym}
 use mathlib.Core.Bool.{Bool, true, false, not, ◌&&◌}
 use mathlib.Core.List.{List, [], ◌∷◌}
 use Prim.Native.Nat.{ℕ, ◌^◌, ◌<◌}
@@ -11,7 +11,6 @@ use Rattle.refusals.specs.declared.Refusal.{Refusal}
 use Rattle.record_layout.specs.Layout.{area_size, record_of, copy0, copy1, image_count}
 use Rattle.record_layout.specs.Rules.{sound_copy}
 use Rattle.record_copies.specs.Copies.{records_equal, sound_and_equal}
-use Rattle.record_stores.specs.Stores.{store_numbers}
 use Rattle.record_stores.proofs.Laid.{with_list_none}
 use Rattle.record_store_lists.specs.Lists.{Changeable, AtFront}
 use Rattle.record_store_lists.specs.ChangeStores.{copy_stores, change_stores}

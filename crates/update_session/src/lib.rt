@@ -132,12 +132,7 @@ impl Session {
     }
 
     // Accept, for Trial, of the image with that type GUID (S12 to S14).
-    pub fn accept(
-        &mut self,
-        area: &[u8],
-        guid: [u8; 16],
-        out: &mut [u32],
-    ) -> Result<usize, Refusal>
+    pub fn accept(&mut self, area: &[u8], guid: [u8; 16], out: &mut [u32]) -> Result<usize, Refusal>
         ensures { (outcome_of self.new result, out.new)
             ≡ answered (accept guid) self.old area.now out.old }
     {
