@@ -56,6 +56,7 @@ pub fn refused(given: SessionNumbers, why: Refusal) -> AnswerNumbers
 }
 
 // The answer of a call that was given that session, and led to `next` where it was not refused.
+#[tactic(auto, unfolding(refusal_order::specs::Decide::reply))]
 pub fn answer_in_numbers(
     given: SessionNumbers,
     next: Session,
