@@ -2,8 +2,9 @@
 -- tells beside, and how many pairs (offset, word) stand in the store list. Assumes nothing.
 use Rattle.std.specs.Prelude.{ℕ, Result, Ok, Err}
 use Rattle.refusals.specs.declared.Refusal.{Refusal}
-use Rattle.refusal_order.specs.Decide.{Decision, passed, refused}
+use Rattle.refusal_order.specs.Decide.{Decision, passed, refused, decision_of}
 use Rattle.update_session.specs.declared.Session.{Session}
+use Rattle.update_session.specs.declared.Answer.{Answer}
 
 abbrev pub Outcome : Type 0
 Outcome = Session × Decision × ℕ
@@ -16,7 +17,11 @@ refused_with s r = (s, refused r, 0)
 abbrev pub passed_with : Session → ℕ → Outcome
 passed_with s n = (s, passed, n)
 
--- what each case of a call's answer states, s being the session afterwards
-abbrev pub outcome_of : Session → Result ℕ Refusal → Outcome
-outcome_of s (Ok n) = passed_with s n
-outcome_of s (Err r) = refused_with s r
+-- the answer's own: what it states
+abbrev pub outcome_of : Answer → Outcome
+outcome_of a = (a.session, decision_of a.verdict, a.stores)
+
+-- the same of a step that left the session s: how many pairs it listed, or why not
+abbrev pub came_to : Session → Result ℕ Refusal → Outcome
+came_to s (Ok n) = passed_with s n
+came_to s (Err r) = refused_with s r

@@ -1,6 +1,8 @@
-// The session and the six calls (S1, S5 to S18). Each call tests in the order of N110: what is tested for every session
-// first, once and before the call looks at which session it is, then its own; a refusal leaves the session as it was,
-// with no list.
+// The session, the answer of the calls, and the six calls (S1, S5 to S18). Each call tests in the order of N110: what is
+// tested for every session first, once and before the call looks at which session it is, then its own; a refusal hands
+// the session back as it was, with no list.
+// The customer names the form: the calls take the session by value and hand the next one back, in a struct beside the
+// verdict and the count of stores. Below each stands a function that moves a session on, or refuses and leaves it.
 #![tactic(auto)]
 
 ghost use Rattle.std.specs.Prelude.{◌≡◌, true, ◌<◌};
@@ -9,7 +11,7 @@ ghost use Rattle.record_layout.specs.Rules.{sound};
 ghost use Rattle.record_store_lists.specs.Lists.{Changeable};
 ghost use Rattle.update_changes.specs.Changed.{begin, commit, end, cancel, accept, select_previous, changed_by, Names};
 ghost use Rattle.refusal_order.specs.Decide.{decide, decision_of};
-ghost use Rattle.update_session.specs.Outcome.{outcome_of, passed_with};
+ghost use Rattle.update_session.specs.Outcome.{came_to, outcome_of, passed_with};
 ghost use Rattle.update_session.specs.Calls.{common_tests, held, after_accept, changed_to, answered};
 
 use record_copies::held_record;
@@ -28,6 +30,27 @@ pub enum Session {
     Trial,
     Fallback,
     Restart,
+}
+
+// The next session, or on a refusal the session as it was; the verdict; and how many pairs stand in the store list.
+#[derive(Clone, Copy, Debug, PartialEq, Eq)]
+pub struct Answer {
+    pub session: Session,
+    pub verdict: Result<(), Refusal>,
+    pub stores: usize,
+}
+
+impl Answer {
+    // Of a call that left that session, and listed so many pairs or refused.
+    fn of(session: Session, listed: Result<usize, Refusal>) -> Answer
+        ensures { outcome_of result ≡ came_to session listed }
+    {
+        Answer {
+            session,
+            verdict: listed.map(|_| ()),
+            stores: listed.unwrap_or(0),
+        }
+    }
 }
 
 // Where Accept of image i leads: Regular once every image of the active bank is accepted, else Trial.
@@ -67,11 +90,10 @@ impl Session {
         list_change(area, x, out)
     }
 
-    // Begin, for Regular and Staging (S5, S6). Lists in `out` the stores of the change, and answers how many: pairs of
-    // an offset and a word, to be done in list order. Numbers past the list stay, and on a refusal every number does.
-    // The session is the next one then, and on a refusal stays. So with each call.
-    pub fn begin(&mut self, area: &[u8], out: &mut [u32]) -> Result<usize, Refusal>
-        ensures { (outcome_of self.new result, out.new) ≡ answered begin self.old area.now out.old }
+    // Begin, for Regular and Staging (S5, S6). Lists in `out` the stores of the change, and answers how many. The
+    // session is the next one then, and on a refusal stays. So with each that follows.
+    fn try_begin(&mut self, area: &[u8], out: &mut [u32]) -> Result<usize, Refusal>
+        ensures { (came_to self.new result, out.new) ≡ answered begin self.old area.now out.old }
     {
         self.admit(area, out.len())?;
         let (Session::Regular | Session::Staging { .. }) = *self else {
@@ -82,14 +104,14 @@ impl Session {
     }
 
     // Commit, for Staging, of the image with that type GUID (S7, S8).
-    pub fn commit(
+    fn try_commit(
         &mut self,
         area: &[u8],
         guid: [u8; 16],
         request: u32,
         out: &mut [u32],
     ) -> Result<usize, Refusal>
-        ensures { (outcome_of self.new result, out.new)
+        ensures { (came_to self.new result, out.new)
             ≡ answered (commit guid request) self.old area.now out.old }
     {
         self.admit(area, out.len())?;
@@ -105,8 +127,8 @@ impl Session {
     }
 
     // End, for Staging (S9, S10).
-    pub fn end(&mut self, area: &[u8], out: &mut [u32]) -> Result<usize, Refusal>
-        ensures { (outcome_of self.new result, out.new) ≡ answered end self.old area.now out.old }
+    fn try_end(&mut self, area: &[u8], out: &mut [u32]) -> Result<usize, Refusal>
+        ensures { (came_to self.new result, out.new) ≡ answered end self.old area.now out.old }
     {
         self.admit(area, out.len())?;
         let Session::Staging { set, .. } = *self else {
@@ -120,8 +142,8 @@ impl Session {
     }
 
     // Cancel, for Staging: it changes nothing in the record, so nothing is listed (S11).
-    pub fn cancel(&mut self, area: &[u8], out: &mut [u32]) -> Result<usize, Refusal>
-        ensures { (outcome_of self.new result, out.new) ≡ answered cancel self.old area.now out.old }
+    fn try_cancel(&mut self, area: &[u8], out: &mut [u32]) -> Result<usize, Refusal>
+        ensures { (came_to self.new result, out.new) ≡ answered cancel self.old area.now out.old }
     {
         self.admit(area, out.len())?;
         let Session::Staging { .. } = *self else {
@@ -132,8 +154,8 @@ impl Session {
     }
 
     // Accept, for Trial, of the image with that type GUID (S12 to S14).
-    pub fn accept(&mut self, area: &[u8], guid: [u8; 16], out: &mut [u32]) -> Result<usize, Refusal>
-        ensures { (outcome_of self.new result, out.new)
+    fn try_accept(&mut self, area: &[u8], guid: [u8; 16], out: &mut [u32]) -> Result<usize, Refusal>
+        ensures { (came_to self.new result, out.new)
             ≡ answered (accept guid) self.old area.now out.old }
     {
         self.admit(area, out.len())?;
@@ -147,8 +169,8 @@ impl Session {
     }
 
     // Select previous, for Trial and Fallback (S15, S16).
-    pub fn select_previous(&mut self, area: &[u8], out: &mut [u32]) -> Result<usize, Refusal>
-        ensures { (outcome_of self.new result, out.new)
+    fn try_select_previous(&mut self, area: &[u8], out: &mut [u32]) -> Result<usize, Refusal>
+        ensures { (came_to self.new result, out.new)
             ≡ answered select_previous self.old area.now out.old }
     {
         self.admit(area, out.len())?;
@@ -159,5 +181,60 @@ impl Session {
             return Err(Refusal::SessionState);
         }
         Ok(self.change(Session::Restart, area, Change::Exchange, out))
+    }
+
+    // Begin (S5, S6). Lists in `out` the stores of the change: pairs of an offset and a word, to be done in list order.
+    // Numbers past the list stay, and on a refusal every number does. So with each call.
+    pub fn begin(self, area: &[u8], out: &mut [u32]) -> Answer
+        ensures { (outcome_of result, out.new) ≡ answered begin self area.now out.old }
+    {
+        let mut next = self;
+        let listed = next.try_begin(area, out);
+        Answer::of(next, listed)
+    }
+
+    // Commit, of the image with that type GUID (S7, S8).
+    pub fn commit(self, area: &[u8], guid: [u8; 16], request: u32, out: &mut [u32]) -> Answer
+        ensures { (outcome_of result, out.new) ≡ answered (commit guid request) self area.now out.old }
+    {
+        let mut next = self;
+        let listed = next.try_commit(area, guid, request, out);
+        Answer::of(next, listed)
+    }
+
+    // End (S9, S10).
+    pub fn end(self, area: &[u8], out: &mut [u32]) -> Answer
+        ensures { (outcome_of result, out.new) ≡ answered end self area.now out.old }
+    {
+        let mut next = self;
+        let listed = next.try_end(area, out);
+        Answer::of(next, listed)
+    }
+
+    // Cancel (S11).
+    pub fn cancel(self, area: &[u8], out: &mut [u32]) -> Answer
+        ensures { (outcome_of result, out.new) ≡ answered cancel self area.now out.old }
+    {
+        let mut next = self;
+        let listed = next.try_cancel(area, out);
+        Answer::of(next, listed)
+    }
+
+    // Accept, of the image with that type GUID (S12 to S14).
+    pub fn accept(self, area: &[u8], guid: [u8; 16], out: &mut [u32]) -> Answer
+        ensures { (outcome_of result, out.new) ≡ answered (accept guid) self area.now out.old }
+    {
+        let mut next = self;
+        let listed = next.try_accept(area, guid, out);
+        Answer::of(next, listed)
+    }
+
+    // Select previous (S15, S16).
+    pub fn select_previous(self, area: &[u8], out: &mut [u32]) -> Answer
+        ensures { (outcome_of result, out.new) ≡ answered select_previous self area.now out.old }
+    {
+        let mut next = self;
+        let listed = next.try_select_previous(area, out);
+        Answer::of(next, listed)
     }
 }

@@ -1,4 +1,4 @@
--- `select_previous` meets its contract. Assumes nothing.
+-- `try_select_previous` meets its contract. Assumes nothing.
 use Rattle.std.proofs.Common.{rules, ◌≡◌, refl, sym, ◌∙◌, length}
 use Rattle.std.specs.Prelude.{Err}
 use Rattle.refusals.specs.declared.Refusal.TheVariants.{SessionState}
@@ -7,7 +7,7 @@ use Rattle.update_changes.specs.Changed.{select_previous, change_of, new_record}
 use Rattle.update_session.specs.Calls.{own_tests, next_session}
 use Rattle.update_session.proofs.Named.{for_select, not_for_select}
 use Rattle.update_session.proofs.Answered.{common_held, common_changeable, refused_first, refused_own, accepted_own}
-use Rattle.update_session.proofs.Session.select_previous.Goals as goal
+use Rattle.update_session.proofs.Session.try_select_previous.Goals as goal
 
 pub returns-in_err-admit : goal.returns-in_err-admit
 returns-in_err-admit c =

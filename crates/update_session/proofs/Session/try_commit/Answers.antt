@@ -1,4 +1,4 @@
--- `commit` meets its contract. Assumes nothing.
+-- `try_commit` meets its contract. Assumes nothing.
 use Rattle.std.proofs.Common.{rules, arith, ◌≡◌, ◌≤◌, length}
 use Rattle.std.specs.Prelude.{Some, None, Err}
 use Rattle.refusals.specs.declared.Refusal.TheVariants.{SessionState, NoImage}
@@ -11,7 +11,7 @@ use Rattle.update_session.proofs.Named.{not_staging}
 use Rattle.update_session.proofs.Answered.{common_held, common_changeable, refused_first, refused_own, accepted_own}
 use Rattle.update_committed_set.proofs.Known.{known}
 use borrow.Author.Tests.{le-leb, lt-leb}
-use Rattle.update_session.proofs.Session.commit.Goals as goal
+use Rattle.update_session.proofs.Session.try_commit.Goals as goal
 
 pub returns-in_err-admit : goal.returns-in_err-admit
 returns-in_err-admit c =

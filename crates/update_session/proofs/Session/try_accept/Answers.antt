@@ -1,4 +1,4 @@
--- `accept` meets its contract. Assumes nothing.
+-- `try_accept` meets its contract. Assumes nothing.
 use Rattle.std.proofs.Common.{rules, arith, ◌≡◌, ◌≤◌, length}
 use Rattle.std.specs.Prelude.{Some, None, Err}
 use Rattle.refusals.specs.declared.Refusal.TheVariants.{SessionState, NoImage}
@@ -10,7 +10,7 @@ use Rattle.update_session.specs.Calls.{own_tests, next_session}
 use Rattle.update_session.proofs.Named.{not_trial}
 use Rattle.update_session.proofs.Answered.{common_held, common_changeable, refused_first, refused_own, accepted_own}
 use borrow.Author.Tests.{le-leb, lt-leb}
-use Rattle.update_session.proofs.Session.accept.Goals as goal
+use Rattle.update_session.proofs.Session.try_accept.Goals as goal
 
 pub returns-in_err-admit : goal.returns-in_err-admit
 returns-in_err-admit c =

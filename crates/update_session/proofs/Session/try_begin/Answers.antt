@@ -1,4 +1,4 @@
--- `begin` meets its contract. Assumes nothing.
+-- `try_begin` meets its contract. Assumes nothing.
 use Rattle.std.proofs.Common.{rules, arith, ◌≡◌, length}
 use Rattle.std.specs.Prelude.{Err}
 use Rattle.refusals.specs.declared.Refusal.TheVariants.{SessionState}
@@ -8,7 +8,7 @@ use Rattle.update_session.specs.Calls.{own_tests, next_session}
 use Rattle.update_session.proofs.Named.{for_begin, not_for_begin}
 use Rattle.update_session.proofs.Answered.{common_held, common_changeable, refused_first, refused_own, accepted_own}
 use Rattle.update_committed_set.proofs.Known.{known}
-use Rattle.update_session.proofs.Session.begin.Goals as goal
+use Rattle.update_session.proofs.Session.try_begin.Goals as goal
 
 pub returns-in_err-admit : goal.returns-in_err-admit
 returns-in_err-admit c =

@@ -1,4 +1,4 @@
--- `cancel` meets its contract. Assumes nothing.
+-- `try_cancel` meets its contract. Assumes nothing.
 use Rattle.std.proofs.Common.{rules, ◌≡◌, refl, length}
 use Rattle.std.specs.Prelude.{Err}
 use Rattle.refusals.specs.declared.Refusal.TheVariants.{SessionState}
@@ -7,7 +7,7 @@ use Rattle.update_changes.specs.Changed.{cancel, change_of, changed_by, new_reco
 use Rattle.update_session.specs.Calls.{own_tests, next_session}
 use Rattle.update_session.proofs.Named.{not_staging}
 use Rattle.update_session.proofs.Answered.{common_held, refused_first, refused_own, accepted_own, unchanged}
-use Rattle.update_session.proofs.Session.cancel.Goals as goal
+use Rattle.update_session.proofs.Session.try_cancel.Goals as goal
 
 pub returns-in_err-admit : goal.returns-in_err-admit
 returns-in_err-admit c =

@@ -1,4 +1,4 @@
--- `end` meets its contract. Assumes nothing.
+-- `try_end` meets its contract. Assumes nothing.
 use Rattle.std.proofs.Common.{rules, ◌≡◌, refl, length}
 use Rattle.std.specs.Prelude.{Err}
 use Rattle.refusals.specs.declared.Refusal.TheVariants.{SessionState, ImagesMissing}
@@ -8,7 +8,7 @@ use Rattle.update_session.specs.Calls.{own_tests, next_session}
 use Rattle.update_session.proofs.Named.{not_staging}
 use Rattle.update_session.proofs.Answered.{common_held, common_changeable, common_below, refused_first, refused_own, accepted_own}
 use borrow.Author.Tests.{eq-eqb, ne_eqb}
-use Rattle.update_session.proofs.Session.end.Goals as goal
+use Rattle.update_session.proofs.Session.try_end.Goals as goal
 
 pub returns-in_err-admit : goal.returns-in_err-admit
 returns-in_err-admit c =
