@@ -21,9 +21,7 @@ pub extern "C" fn meanderpeg_accept(
 ) -> AnswerNumbers
     ensures { (result, out.new) ≡ exported (accept guid.now) session area.now out.old }
 {
-    let mut named = Session::from(session);
-    let answered = named.accept(area, *guid, out);
-    answer_in_numbers(session, named, answered)
+    answer_in_numbers(session, Session::from(session).accept(area, *guid, out))
 }
 
 // Exchanges the active and the previous bank (S15, S16).
@@ -35,7 +33,5 @@ pub extern "C" fn meanderpeg_select_previous(
 ) -> AnswerNumbers
     ensures { (result, out.new) ≡ exported select_previous session area.now out.old }
 {
-    let mut named = Session::from(session);
-    let answered = named.select_previous(area, out);
-    answer_in_numbers(session, named, answered)
+    answer_in_numbers(session, Session::from(session).select_previous(area, out))
 }

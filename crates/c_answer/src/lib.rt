@@ -8,7 +8,7 @@ ghost use Rattle.c_answer.specs.Answers.{slots, passed_numbers, refused_numbers,
 
 use c_session::SessionNumbers;
 use refusals::Refusal;
-use update_session::Session;
+use update_session::Answer;
 
 // The refusal's number, 0 for none (N104); what it tells beside; the session that is next, or with a refusal the one
 // given; how many pairs are listed.
@@ -55,17 +55,13 @@ pub fn refused(given: SessionNumbers, why: Refusal) -> AnswerNumbers
     }
 }
 
-// The answer of a call that was given that session, and led to `next` where it was not refused.
+// The answer of a call that was given that session.
 #[tactic(auto, unfolding(refusal_order::specs::Decide::reply))]
-pub fn answer_in_numbers(
-    given: SessionNumbers,
-    next: Session,
-    answered: Result<usize, Refusal>,
-) -> AnswerNumbers
-    ensures { result ≡ exported_outcome given (outcome_of next answered) }
+pub fn answer_in_numbers(given: SessionNumbers, answer: Answer) -> AnswerNumbers
+    ensures { result ≡ exported_outcome given (outcome_of answer) }
 {
-    match answered {
-        Ok(pairs) => passed(SessionNumbers::from(next), pairs),
+    match answer.verdict {
+        Ok(()) => passed(SessionNumbers::from(answer.session), answer.stores),
         Err(why) => refused(given, why),
     }
 }

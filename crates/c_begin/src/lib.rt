@@ -21,9 +21,7 @@ pub extern "C" fn meanderpeg_begin(
 ) -> AnswerNumbers
     ensures { (result, out.new) ≡ exported begin session area.now out.old }
 {
-    let mut named = Session::from(session);
-    let answered = named.begin(area, out);
-    answer_in_numbers(session, named, answered)
+    answer_in_numbers(session, Session::from(session).begin(area, out))
 }
 
 // Lists no store (S11).
@@ -35,7 +33,5 @@ pub extern "C" fn meanderpeg_cancel(
 ) -> AnswerNumbers
     ensures { (result, out.new) ≡ exported cancel session area.now out.old }
 {
-    let mut named = Session::from(session);
-    let answered = named.cancel(area, out);
-    answer_in_numbers(session, named, answered)
+    answer_in_numbers(session, Session::from(session).cancel(area, out))
 }

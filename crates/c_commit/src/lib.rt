@@ -23,9 +23,10 @@ pub extern "C" fn meanderpeg_commit(
     ensures { (result, out.new)
         ≡ exported (commit guid.now request) session area.now out.old }
 {
-    let mut named = Session::from(session);
-    let answered = named.commit(area, *guid, request, out);
-    answer_in_numbers(session, named, answered)
+    answer_in_numbers(
+        session,
+        Session::from(session).commit(area, *guid, request, out),
+    )
 }
 
 // Makes the update bank the active one (S9, S10); 27 tells how many images are missing (N27).
@@ -37,7 +38,5 @@ pub extern "C" fn meanderpeg_end(
 ) -> AnswerNumbers
     ensures { (result, out.new) ≡ exported end session area.now out.old }
 {
-    let mut named = Session::from(session);
-    let answered = named.end(area, out);
-    answer_in_numbers(session, named, answered)
+    answer_in_numbers(session, Session::from(session).end(area, out))
 }
