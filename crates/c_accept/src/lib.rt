@@ -8,7 +8,8 @@ ghost use Rattle.update_changes.specs.Changed.{accept, select_previous};
 ghost use Rattle.c_answer.specs.Answers.{exported};
 
 use c_answer::{AnswerNumbers, answer_in_numbers};
-use c_session::{SessionNumbers, session_named};
+use c_session::SessionNumbers;
+use update_session::Session;
 
 // By type GUID (S12 to S14).
 #[unsafe(no_mangle)]
@@ -20,9 +21,7 @@ pub extern "C" fn meanderpeg_accept(
 ) -> AnswerNumbers
     ensures { (result, out.new) ≡ exported (accept guid.now) session area.now out.old }
 {
-    let named = session_named(session);
-    let answer = named.accept(area, *guid, out);
-    answer_in_numbers(session, answer)
+    answer_in_numbers(session, Session::from(session).accept(area, *guid, out))
 }
 
 // Exchanges the active and the previous bank (S15, S16).
@@ -34,7 +33,5 @@ pub extern "C" fn meanderpeg_select_previous(
 ) -> AnswerNumbers
     ensures { (result, out.new) ≡ exported select_previous session area.now out.old }
 {
-    let named = session_named(session);
-    let answer = named.select_previous(area, out);
-    answer_in_numbers(session, answer)
+    answer_in_numbers(session, Session::from(session).select_previous(area, out))
 }

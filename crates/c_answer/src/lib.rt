@@ -6,8 +6,7 @@ ghost use Rattle.refusals.specs.Number.{number_of, values_of};
 ghost use Rattle.update_session.specs.Outcome.{outcome_of};
 ghost use Rattle.c_answer.specs.Answers.{slots, passed_numbers, refused_numbers, exported_outcome};
 
-use c_session::{SessionNumbers, numbers_of};
-use refusal_order::Verdict;
+use c_session::SessionNumbers;
 use refusals::Refusal;
 use update_session::Answer;
 
@@ -26,10 +25,10 @@ pub struct AnswerNumbers {
 fn told_by(why: Refusal) -> [u32; 2]
     ensures { result ≡ slots (values_of why) }
 {
-    let Refusal::ImagesMissing(count) = why else {
-        return [0, 0];
-    };
-    [count, 0]
+    match why {
+        Refusal::ImagesMissing(count) => [count, 0],
+        _ => [0, 0],
+    }
 }
 
 // Passed, with the next session and a list of that many pairs.
@@ -48,24 +47,21 @@ pub fn passed(next: SessionNumbers, pairs: usize) -> AnswerNumbers
 pub fn refused(given: SessionNumbers, why: Refusal) -> AnswerNumbers
     ensures { result ≡ refused_numbers given (number_of why) (values_of why) }
 {
-    let told = told_by(why);
     AnswerNumbers {
         refusal: why.number(),
-        told,
+        told: told_by(why),
         session: given,
         pairs: 0,
     }
 }
 
 // The answer of a call that was given that session.
+#[tactic(auto, unfolding(refusal_order::specs::Decide::reply))]
 pub fn answer_in_numbers(given: SessionNumbers, answer: Answer) -> AnswerNumbers
     ensures { result ≡ exported_outcome given (outcome_of answer) }
 {
-    let session = answer.session;
-    let next = numbers_of(session);
-    let verdict = answer.verdict;
-    match verdict {
-        Verdict::Refused(why) => refused(given, why),
-        Verdict::Passed => passed(next, answer.stores),
+    match answer.verdict {
+        Ok(()) => passed(SessionNumbers::from(answer.session), answer.stores),
+        Err(why) => refused(given, why),
     }
 }

@@ -9,7 +9,8 @@ ghost use Rattle.update_changes.specs.Changed.{begin, cancel};
 ghost use Rattle.c_answer.specs.Answers.{exported};
 
 use c_answer::{AnswerNumbers, answer_in_numbers};
-use c_session::{SessionNumbers, session_named};
+use c_session::SessionNumbers;
+use update_session::Session;
 
 // Opens a Staging session (S5, S6).
 #[unsafe(no_mangle)]
@@ -20,9 +21,7 @@ pub extern "C" fn meanderpeg_begin(
 ) -> AnswerNumbers
     ensures { (result, out.new) ≡ exported begin session area.now out.old }
 {
-    let named = session_named(session);
-    let answer = named.begin(area, out);
-    answer_in_numbers(session, answer)
+    answer_in_numbers(session, Session::from(session).begin(area, out))
 }
 
 // Lists no store (S11).
@@ -34,7 +33,5 @@ pub extern "C" fn meanderpeg_cancel(
 ) -> AnswerNumbers
     ensures { (result, out.new) ≡ exported cancel session area.now out.old }
 {
-    let named = session_named(session);
-    let answer = named.cancel(area, out);
-    answer_in_numbers(session, answer)
+    answer_in_numbers(session, Session::from(session).cancel(area, out))
 }

@@ -8,7 +8,8 @@ ghost use Rattle.update_changes.specs.Changed.{commit, end};
 ghost use Rattle.c_answer.specs.Answers.{exported};
 
 use c_answer::{AnswerNumbers, answer_in_numbers};
-use c_session::{SessionNumbers, session_named};
+use c_session::SessionNumbers;
+use update_session::Session;
 
 // By type GUID and a request (S7, S8).
 #[unsafe(no_mangle)]
@@ -22,9 +23,10 @@ pub extern "C" fn meanderpeg_commit(
     ensures { (result, out.new)
         ≡ exported (commit guid.now request) session area.now out.old }
 {
-    let named = session_named(session);
-    let answer = named.commit(area, *guid, request, out);
-    answer_in_numbers(session, answer)
+    answer_in_numbers(
+        session,
+        Session::from(session).commit(area, *guid, request, out),
+    )
 }
 
 // Makes the update bank the active one (S9, S10); 27 tells how many images are missing (N27).
@@ -36,7 +38,5 @@ pub extern "C" fn meanderpeg_end(
 ) -> AnswerNumbers
     ensures { (result, out.new) ≡ exported end session area.now out.old }
 {
-    let named = session_named(session);
-    let answer = named.end(area, out);
-    answer_in_numbers(session, answer)
+    answer_in_numbers(session, Session::from(session).end(area, out))
 }

@@ -28,47 +28,36 @@ pub fn no_session() -> SessionNumbers
 }
 
 // The session that the numbers name. Where they name none, Restart, which no call is named for (X2).
-pub fn session_named(numbers: SessionNumbers) -> Session
-    ensures { result ≡ session_named numbers }
-{
-    let kind = numbers.kind;
-    match kind {
-        1 => Session::Regular,
-        2 => Session::Staging {
-            bank: numbers.bank,
-            set: numbers.set,
-        },
-        3 => Session::Trial,
-        4 => Session::Fallback,
-        _ => Session::Restart,
+impl From<SessionNumbers> for Session {
+    ghost from_gives = { λ numbers session. session ≡ session_named numbers };
+
+    #[tactic(auto, unfolding(crate::specs::Numbers::session_named))]
+    fn from(numbers: SessionNumbers) -> Session {
+        match numbers.kind {
+            1 => Session::Regular,
+            2 => Session::Staging {
+                bank: numbers.bank,
+                set: numbers.set,
+            },
+            3 => Session::Trial,
+            4 => Session::Fallback,
+            _ => Session::Restart,
+        }
     }
 }
 
-// The way back.
-pub fn numbers_of(session: Session) -> SessionNumbers
-    ensures { result ≡ numbers_of session }
-{
-    match session {
-        Session::Regular => SessionNumbers {
-            kind: 1,
-            bank: 0,
-            set: 0,
-        },
-        Session::Staging { bank, set } => SessionNumbers { kind: 2, bank, set },
-        Session::Trial => SessionNumbers {
-            kind: 3,
-            bank: 0,
-            set: 0,
-        },
-        Session::Fallback => SessionNumbers {
-            kind: 4,
-            bank: 0,
-            set: 0,
-        },
-        Session::Restart => SessionNumbers {
-            kind: 5,
-            bank: 0,
-            set: 0,
-        },
+// The way back: bank and set are 0 but for Staging.
+impl From<Session> for SessionNumbers {
+    ghost from_gives = { λ session numbers. numbers ≡ numbers_of session };
+
+    fn from(session: Session) -> SessionNumbers {
+        let (kind, bank, set) = match session {
+            Session::Regular => (1, 0, 0),
+            Session::Staging { bank, set } => (2, bank, set),
+            Session::Trial => (3, 0, 0),
+            Session::Fallback => (4, 0, 0),
+            Session::Restart => (5, 0, 0),
+        };
+        SessionNumbers { kind, bank, set }
     }
 }

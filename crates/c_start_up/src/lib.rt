@@ -8,19 +8,16 @@ ghost use Rattle.update_repair.specs.Repair.{repaired};
 ghost use Rattle.c_start_up.specs.Exported.{exported_start, exported_repair};
 
 use c_answer::{AnswerNumbers, passed, refused};
-use c_session::{no_session, numbers_of};
-use update_repair::Repaired;
-use update_start_up::Started;
+use c_session::{SessionNumbers, no_session};
 
 // The session that an area and the booted bank give (S2), none with a refusal (X4).
 #[unsafe(no_mangle)]
 pub extern "C" fn meanderpeg_start_up(area: &[u8], booted: u32) -> AnswerNumbers
     ensures { result ≡ exported_start (start_up_of area.now booted) }
 {
-    let started = update_start_up::start_up(area, booted);
-    match started {
-        Started::Refused(why) => refused(no_session(), why),
-        Started::In(session) => passed(numbers_of(session), 0),
+    match update_start_up::start_up(area, booted) {
+        Ok(session) => passed(SessionNumbers::from(session), 0),
+        Err(why) => refused(no_session(), why),
     }
 }
 
@@ -29,9 +26,8 @@ pub extern "C" fn meanderpeg_start_up(area: &[u8], booted: u32) -> AnswerNumbers
 pub extern "C" fn meanderpeg_repair(area: &[u8], out: &mut [u32]) -> AnswerNumbers
     ensures { (result, out.new) ≡ exported_repair (repaired area.now out.old) }
 {
-    let done = update_repair::repair(area, out);
-    match done {
-        Repaired::Refused(why) => refused(no_session(), why),
-        Repaired::Listed(pairs) => passed(no_session(), pairs),
+    match update_repair::repair(area, out) {
+        Ok(pairs) => passed(no_session(), pairs),
+        Err(why) => refused(no_session(), why),
     }
 }

@@ -1,2 +1,0 @@
--- How an exported call follows from its parts. Assumes nothing.
-pub mod Exported

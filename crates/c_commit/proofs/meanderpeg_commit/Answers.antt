@@ -1,6 +1,0 @@
--- `meanderpeg_commit` meets its contract. Assumes nothing.
-use Rattle.c_answer.proofs.Exported.{exported_call}
-use Rattle.c_commit.proofs.meanderpeg_commit.Goals as goal
-
-pub returns : goal.returns
-returns c = exported_call _ _ _ _ c.session_named-named.ensures c.commit-answer.ensures c.answer_in_numbers.ensures
