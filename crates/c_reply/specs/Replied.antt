@@ -1,7 +1,6 @@
 -- What an exported function returns, and what stands behind its pointer afterwards (X5). Assumes nothing.
 use Rattle.std.specs.Prelude.{ℕ}
-use Rattle.refusal_order.specs.Decide.{Reply, gives, refuses, reply, decision_of}
-use Rattle.refusal_order.specs.declared.Verdict.{Verdict}
+use Rattle.refusal_order.specs.Decide.{Reply, gives, refuses, reply, decision_of, Verdict}
 
 -- 0, which numbers no refusal (N104), and what is given; or the refusal's number, and what stood there
 abbrev pub replied : {A : Type 0} → Reply A → (old : A) → ℕ × A
