@@ -1,9 +1,10 @@
 -- Laws of the register, for the crates above: of lists of bytes, and that it has 32 bits. Assumes nothing.
 use mathlib.Core.Path.{◌≡◌, refl}
 use mathlib.Core.List.{List, [], ◌∷◌, ◌++◌}
-use Prim.Native.Nat.{ℕ, zero, suc, ◌*◌, ◌/◌, ◌%◌, ◌^◌, ◌<◌}
+use Prim.Native.Nat.{ℕ, zero, suc, ◌/◌, ◌^◌, ◌<◌}
 use native.Mathlib.Omega.{arith}
 use lib.Bits.{bit_xor, xor_lt}
+use Rattle.std.specs.List.{fold}
 use Rattle.fields.specs.Number.{Bytes}
 use Rattle.record_crc.specs.Crc.{division_step, steps, with_byte, with_bytes, all_ones, crc32_of}
 
@@ -12,6 +13,12 @@ pub with_bytes_append : (r : ℕ) (xs ys : List ℕ) → with_bytes r (xs ++ ys)
 unfolding with_bytes
 with_bytes_append r [] ys = refl
 with_bytes_append r (x ∷ xs) ys = with_bytes_append (with_byte r x) xs ys
+
+-- the bytes folded into the register
+pub with_bytes_fold : (r : ℕ) (bs : List ℕ) → fold with_byte r bs ≡ with_bytes r bs
+unfolding with_bytes
+with_bytes_fold r [] = refl
+with_bytes_fold r (b ∷ bs) = with_bytes_fold (with_byte r b) bs
 
 -- ---- a CRC-32 has 32 bits
 step_low : (r : ℕ) → r < 2 ^ 32 → division_step r < 2 ^ 32

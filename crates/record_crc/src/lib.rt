@@ -36,13 +36,7 @@ pub fn with_word(t: &[u32; 256], r: u32, w: u32) -> u32
     requires { TableRight t.now }
     ensures { result ≡ with_bytes r (bytes 4 w) }
 {
-    let x = w / 256;
-    let y = x / 256;
-    let z = y / 256;
-    let first = with_byte(t, r, (w % 256) as u8);
-    let second = with_byte(t, first, (x % 256) as u8);
-    let third = with_byte(t, second, (y % 256) as u8);
-    with_byte(t, third, (z % 256) as u8)
+    w.to_le_bytes().iter().fold(r, |r, &b| with_byte(t, r, b))
 }
 
 // The CRC-32 of all bytes of s.
@@ -50,11 +44,5 @@ pub fn crc32(s: &[u8]) -> u32
     ensures { result ≡ crc32_of s.now }
 {
     let t = crc_table();
-    let mut r: u32 = ALL_ONES;
-    let mut i = 0;
-    while i < s.len() {
-        r = with_byte(&t, r, s[i]);
-        i += 1;
-    }
-    r ^ ALL_ONES
+    s.iter().fold(ALL_ONES, |r, &b| with_byte(&t, r, b)) ^ ALL_ONES
 }

@@ -1,3 +1,2 @@
 -- Laws about the rules on entries, for the proofs here.
 pub mod Words
-pub mod Steps

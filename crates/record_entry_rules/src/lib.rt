@@ -1,89 +1,61 @@
 // The rules of soundness on the words and type GUIDs of a record's image entries (R13, R15, R16). The counts and the
-// length have been tested (`Sized`) before anything here reads an entry.
+// length have been tested (`Counted`) before anything here reads an entry.
 #![tactic(auto)]
 
 ghost use Rattle.std.specs.Prelude.{◌≡◌, not, ◌+◌, ◌*◌, ◌≤◌, ◌<◌, length};
 ghost use Rattle.fields.specs.Guid.{same, guid_every};
 ghost use Rattle.record_layout.specs.Every.{below, distinct};
 ghost use Rattle.record_layout.specs.Rules.{reserved_rule, accepted_rule, type_guids_rule};
-ghost use Rattle.record_layout.specs.Sized.{Sized, bank_words};
+ghost use Rattle.record_layout.specs.Sized.{bank_words};
 
 use fields::{read16, read32, same_guid};
 use record_layout::{
-    ACCEPTED_FROM, HEADER, RESERVED_FROM, RESERVED8_AT, RESERVED16_AT, RESERVED32_AT, bank_word,
-    entry_size,
+    ACCEPTED_FROM, Counted, HEADER, RESERVED_FROM, RESERVED8_AT, RESERVED16_AT, RESERVED32_AT,
+    bank_word, entry_size,
 };
 
 // Whether, in each bank of image i, the word at `from` in the bank's entry is at most `limit`.
-fn bank_words(r: &[u8], banks: usize, images: usize, i: usize, from: usize, limit: u32) -> bool
-    requires { Sized r.now banks images × (i < images) × (from ≤ 20) }
-    ensures { result ≡ bank_words r.now banks from limit i }
+fn bank_words(c: Counted, i: usize, from: usize, limit: u32) -> bool
+    requires { (i < c.images) × (from ≤ 20) }
+    ensures { result ≡ bank_words c.entry.bytes.now c.entry.banks from limit i }
 {
-    let mut b = 0;
-    while b < banks {
-        if limit < bank_word(r, banks, i, b, from) {
-            return false;
-        }
-        b += 1;
-    }
-    true
+    (0..c.banks).all(|b| bank_word(c.bytes, c.banks, i, b, from) <= limit)
 }
 
 // The same for every image.
-fn all_words(r: &[u8], banks: usize, images: usize, from: usize, limit: u32) -> bool
-    requires { Sized r.now banks images × (from ≤ 20) }
-    ensures { result ≡ below images (bank_words r.now banks from limit) }
+fn all_words(c: Counted, from: usize, limit: u32) -> bool
+    requires { from ≤ 20 }
+    ensures { result ≡ below c.entry.images (bank_words c.entry.bytes.now c.entry.banks from limit) }
 {
-    let mut i = 0;
-    while i < images {
-        if !bank_words(r, banks, images, i, from, limit) {
-            return false;
-        }
-        i += 1;
-    }
-    true
+    (0..c.images).all(|i| bank_words(c, i, from, limit))
 }
 
 // R13: reserved fields are 0.
-pub fn reserved_rule(r: &[u8], banks: usize, images: usize) -> bool
-    requires { Sized r.now banks images }
-    ensures { result ≡ reserved_rule r.now }
+#[tactic(auto, using(crate::proofs::Words::reserved_words), unfolding(record_layout::specs::Rules::reserved_rule))]
+pub fn reserved_rule(c: Counted) -> bool
+    ensures { result ≡ reserved_rule c.entry.bytes.now }
 {
-    if read16(r, RESERVED16_AT) != 0 {
-        return false;
-    }
-    if read32(r, RESERVED32_AT) != 0 {
-        return false;
-    }
-    if r[RESERVED8_AT] != 0 {
-        return false;
-    }
-    all_words(r, banks, images, RESERVED_FROM, 0)
+    read16(c.bytes, RESERVED16_AT) == 0
+        && read32(c.bytes, RESERVED32_AT) == 0
+        && c.bytes[RESERVED8_AT] == 0
+        && all_words(c, RESERVED_FROM, 0)
 }
 
 // R15: accepted fields are 0 or 1.
-pub fn accepted_rule(r: &[u8], banks: usize, images: usize) -> bool
-    requires { Sized r.now banks images }
-    ensures { result ≡ accepted_rule r.now }
+#[tactic(auto, using(crate::proofs::Words::accepted_words), unfolding(record_layout::specs::Rules::accepted_rule))]
+pub fn accepted_rule(c: Counted) -> bool
+    ensures { result ≡ accepted_rule c.entry.bytes.now }
 {
-    all_words(r, banks, images, ACCEPTED_FROM, 1)
+    all_words(c, ACCEPTED_FROM, 1)
 }
 
-// Whether the GUID at `at`, number i of those that stand `step` bytes apart from `first` on, differs from those before.
-fn guid_differs(s: &[u8], first: usize, step: usize, i: usize, at: usize) -> bool
-    requires { (at ≡ first + i * step) × (at + 16 ≤ length s.now) }
+// Whether GUID i of those that stand `step` bytes apart from `first` on differs from those before.
+fn guid_differs(s: &[u8], first: usize, step: usize, i: usize) -> bool
+    requires { first + i * step + 16 ≤ length s.now }
     ensures { result ≡ below i (λ j. not (same (guid_every step first s.now j) (guid_every step first s.now i))) }
 {
-    let mut from = first;
-    let mut j = 0;
-    while j < i {
-        if same_guid(s, from, s, at) {
-            return false;
-        }
-        from += step;
-        j += 1;
-    }
-    true
+    let at = first + i * step;
+    (0..i).all(|j| !same_guid(s, first + j * step, s, at))
 }
 
 // Whether n GUIDs that stand `step` bytes apart, the first at `first`, are all different. It serves directory_reader.
@@ -91,22 +63,13 @@ pub fn guids_differ(s: &[u8], first: usize, step: usize, n: usize) -> bool
     requires { (16 ≤ step) × (first + n * step ≤ length s.now) }
     ensures { result ≡ distinct n (guid_every step first s.now) }
 {
-    let mut at = first;
-    let mut i = 0;
-    while i < n {
-        if !guid_differs(s, first, step, i, at) {
-            return false;
-        }
-        at += step;
-        i += 1;
-    }
-    true
+    (0..n).all(|i| guid_differs(s, first, step, i))
 }
 
 // R16: type GUIDs are all different.
-pub fn type_guids_rule(r: &[u8], banks: usize, images: usize) -> bool
-    requires { Sized r.now banks images }
-    ensures { result ≡ type_guids_rule r.now }
+#[tactic(auto, unfolding(record_layout::specs::Rules::type_guids_rule))]
+pub fn type_guids_rule(c: Counted) -> bool
+    ensures { result ≡ type_guids_rule c.entry.bytes.now }
 {
-    guids_differ(r, HEADER, entry_size(banks), images)
+    guids_differ(c.bytes, HEADER, entry_size(c.banks), c.images)
 }

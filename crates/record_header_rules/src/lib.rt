@@ -14,6 +14,7 @@ use record_layout::{
 };
 
 // R6: the version is 2.
+#[tactic(auto, unfolding(record_layout::specs::Rules::version_rule))]
 pub fn version_rule(r: &[u8]) -> bool
     requires { header_size ≤ length r.now }
     ensures { result ≡ version_rule r.now }
@@ -22,30 +23,25 @@ pub fn version_rule(r: &[u8]) -> bool
 }
 
 // R7: 2 to 4 banks.
+#[tactic(auto, unfolding(record_layout::specs::Rules::bank_count_rule))]
 pub fn bank_count_rule(r: &[u8]) -> bool
     requires { header_size ≤ length r.now }
     ensures { result ≡ bank_count_rule r.now }
 {
-    let banks = bank_count(r);
-    if banks < 2 {
-        return false;
-    }
-    banks <= BANK_LIMIT
+    (2..=BANK_LIMIT).contains(&bank_count(r))
 }
 
 // R8: 1 to 32 images.
+#[tactic(auto, unfolding(record_layout::specs::Rules::image_count_rule))]
 pub fn image_count_rule(r: &[u8]) -> bool
     requires { header_size ≤ length r.now }
     ensures { result ≡ image_count_rule r.now }
 {
-    let images = image_count(r);
-    if images < 1 {
-        return false;
-    }
-    images <= IMAGE_LIMIT
+    (1..=IMAGE_LIMIT).contains(&image_count(r))
 }
 
 // R9: the bank entry size.
+#[tactic(auto, unfolding(record_layout::specs::Rules::bank_entry_size_rule))]
 pub fn bank_entry_size_rule(r: &[u8]) -> bool
     requires { header_size ≤ length r.now }
     ensures { result ≡ bank_entry_size_rule r.now }
@@ -54,6 +50,7 @@ pub fn bank_entry_size_rule(r: &[u8]) -> bool
 }
 
 // R10: the image entry size.
+#[tactic(auto, unfolding(record_layout::specs::Rules::image_entry_size_rule))]
 pub fn image_entry_size_rule(r: &[u8]) -> bool
     requires { header_size ≤ length r.now }
     ensures { result ≡ image_entry_size_rule r.now }
@@ -62,18 +59,17 @@ pub fn image_entry_size_rule(r: &[u8]) -> bool
 }
 
 // R11: the size, and that so many bytes are there.
+#[tactic(auto, unfolding(record_layout::specs::Rules::size_rule))]
 pub fn size_rule(r: &[u8]) -> bool
     requires { header_size ≤ length r.now }
     ensures { result ≡ size_rule r.now }
 {
     let n = size(r) as usize;
-    if n != HEADER + image_count(r) * entry_size(bank_count(r)) {
-        return false;
-    }
-    r.len() == n
+    n == HEADER + image_count(r) * entry_size(bank_count(r)) && r.len() == n
 }
 
 // R12: the descriptor offset.
+#[tactic(auto, unfolding(record_layout::specs::Rules::descriptor_offset_rule))]
 pub fn descriptor_offset_rule(r: &[u8]) -> bool
     requires { header_size ≤ length r.now }
     ensures { result ≡ descriptor_offset_rule r.now }
@@ -82,13 +78,11 @@ pub fn descriptor_offset_rule(r: &[u8]) -> bool
 }
 
 // R14: active and previous name banks.
+#[tactic(auto, unfolding(record_layout::specs::Rules::banks_named_rule))]
 pub fn banks_named_rule(r: &[u8]) -> bool
     requires { header_size ≤ length r.now }
     ensures { result ≡ banks_named_rule r.now }
 {
     let banks = bank_count(r);
-    if banks <= active(r) as usize {
-        return false;
-    }
-    (previous(r) as usize) < banks
+    (active(r) as usize) < banks && (previous(r) as usize) < banks
 }

@@ -11,6 +11,9 @@ ghost use Rattle.record_layout.specs.Layout.{version, size, active, previous, st
 ghost use Rattle.record_layout.specs.Layout.{entry_size, entry_at, bank_entry_at, accepted};
 ghost use Rattle.record_layout.specs.Sized.{Sized};
 
+mod counted;
+
+pub use counted::Counted;
 use fields::{read16, read32};
 
 // The lengths of an area, of a copy and of a record's header.
@@ -76,14 +79,7 @@ pub fn record_in(c: &[u8]) -> &[u8]
     requires { header_size ≤ length c.now }
     ensures { result.now ≡ record_of c.now }
 {
-    let n = size(c) as usize;
-    if n < HEADER {
-        return &c[0..HEADER];
-    }
-    if c.len() < n {
-        return c;
-    }
-    &c[0..n]
+    &c[..(size(c) as usize).max(HEADER).min(c.len())]
 }
 
 // The record in the copy that stands at base in an area.

@@ -1,44 +1,31 @@
 // The rules of soundness on a record's bank states and on what is accepted in each bank (R17, R18). The counts and the
-// length have been tested (`Sized`) before anything here reads an entry.
+// length have been tested (`Counted`) before anything here reads an entry.
 #![tactic(auto)]
 
 ghost use Rattle.std.specs.Prelude.{◌≡◌, ◌<◌};
-ghost use Rattle.fields.specs.Number.{le};
-ghost use Rattle.record_layout.specs.Layout.{active_at};
+ghost use Rattle.record_layout.specs.Layout.{active};
 ghost use Rattle.record_layout.specs.Rules.{state_allowed, states_rule, all_accepted, bank_consistent, banks_rule};
 ghost use Rattle.record_layout.specs.Sized.{Sized};
 
-use record_layout::{ACCEPTED, BANK_LIMIT, INVALID, VALID, accepted_word, state};
+use record_layout::{ACCEPTED, BANK_LIMIT, Counted, INVALID, VALID, accepted_word, active, state};
 
 // Whether s may be the state of bank b.
+#[tactic(auto, unfolding(record_layout::specs::Rules::state_allowed))]
 fn state_allowed(banks: usize, b: usize, s: u8) -> bool
     ensures { result ≡ state_allowed banks b s }
 {
-    if s == INVALID {
-        return true;
+    match s {
+        INVALID => true,
+        VALID | ACCEPTED => b < banks,
+        _ => false,
     }
-    if banks <= b {
-        return false;
-    }
-    if s == VALID {
-        return true;
-    }
-    s == ACCEPTED
 }
 
 // R17: each bank has one of its states.
-pub fn states_rule(r: &[u8], banks: usize, images: usize) -> bool
-    requires { Sized r.now banks images }
-    ensures { result ≡ states_rule r.now }
+pub fn states_rule(c: Counted) -> bool
+    ensures { result ≡ states_rule c.entry.bytes.now }
 {
-    let mut b = 0;
-    while b < BANK_LIMIT {
-        if !state_allowed(banks, b, state(r, b)) {
-            return false;
-        }
-        b += 1;
-    }
-    true
+    (0..BANK_LIMIT).all(|b| state_allowed(c.banks, b, state(c.bytes, b)))
 }
 
 // Whether every image of bank b is accepted.
@@ -46,43 +33,26 @@ pub fn all_accepted(r: &[u8], banks: usize, images: usize, b: usize) -> bool
     requires { Sized r.now banks images × (b < banks) }
     ensures { result ≡ all_accepted r.now b }
 {
-    let mut i = 0;
-    while i < images {
-        if accepted_word(r, banks, i, b) != 1 {
-            return false;
-        }
-        i += 1;
-    }
-    true
+    (0..images).all(|i| accepted_word(r, banks, i, b) == 1)
 }
 
 // Whether the state of bank b fits what is accepted there.
-fn bank_consistent(r: &[u8], banks: usize, images: usize, b: usize) -> bool
-    requires { Sized r.now banks images × (b < banks) }
-    ensures { result ≡ bank_consistent r.now b }
+#[tactic(auto, unfolding(record_layout::specs::Rules::bank_consistent))]
+fn bank_consistent(c: Counted, b: usize) -> bool
+    requires { b < c.banks }
+    ensures { result ≡ bank_consistent c.entry.bytes.now b }
 {
-    let s = state(r, b);
-    if s == ACCEPTED {
-        return all_accepted(r, banks, images, b);
+    match state(c.bytes, b) {
+        ACCEPTED => all_accepted(c.bytes, c.banks, c.images, b),
+        VALID => !all_accepted(c.bytes, c.banks, c.images, b),
+        _ => true,
     }
-    if s == VALID {
-        return !all_accepted(r, banks, images, b);
-    }
-    true
 }
 
-// R18: what is accepted in each bank fits its state, and the active bank is not 255. It must be one that the record
-// has.
-pub fn banks_rule(r: &[u8], banks: usize, images: usize, active: usize) -> bool
-    requires { Sized r.now banks images × (active < banks) × (active ≡ le 4 r.now active_at) }
-    ensures { result ≡ banks_rule r.now }
+// R18: what is accepted in each bank fits its state, and the active bank, one that the record has (R14), is not 255.
+pub fn banks_rule(c: Counted) -> bool
+    requires { active c.bytes.now < c.banks }
+    ensures { result ≡ banks_rule c.entry.bytes.now }
 {
-    let mut b = 0;
-    while b < banks {
-        if !bank_consistent(r, banks, images, b) {
-            return false;
-        }
-        b += 1;
-    }
-    state(r, active) != INVALID
+    (0..c.banks).all(|b| bank_consistent(c, b)) && state(c.bytes, active(c.bytes) as usize) != INVALID
 }

@@ -1,30 +1,17 @@
--- `bank_words` meets its contract. The loop's invariant: the words of the banks below b are at most the limit. Assumes
--- nothing.
-use Prim.Native.Nat.{◌-◌}
-use mathlib.Core.Path.{sym}
-use native.Mathlib.Omega.{arith}
-use borrow.Author.Tests.{le-leb, lt-leb}
-use Rattle.record_layout.proofs.Below.{passed_none, passed_more, passed_stop, passed_all}
+-- `bank_words` meets its contract. Assumes nothing.
+use mathlib.Core.Path.{refl}
+use Prim.Native.Nat.{◌+◌}
+use lib.Dec.{leb}
+use Rattle.std.proofs.Common.{rules, tests}
+use Rattle.fields.specs.Number.{le}
+use Rattle.record_layout.specs.Layout.{bank_entry_at}
 use Rattle.record_layout.specs.Sized.{bank_words}
-use Rattle.record_layout.proofs.Sizes.{by_field}
+use Rattle.record_layout.proofs.Every.{below_from_all}
 use Rattle.record_entry_rules.proofs.bank_words.Goals as goal
-
-pub loop-b-init : goal.loop-b-init
-loop-b-init c = passed_none
-
-pub bank_word-requires : goal.bank_word-requires
-bank_word-requires c =
-    let a = c.args in
-    let p = c.requires in
-    (by_field a.r.now a.banks a.images p.0, omega (arith, p.0.images_is, p.1), c.loop-b-test.true, p.2)
-
-pub returns-then-limit-bank_word : goal.returns-then-limit-bank_word
-unfolding bank_words
-returns-then-limit-bank_word c = sym (passed_stop c.loop-b.invariant c.loop-b-test.true (rw (← c.bank_word.ensures) (lt-leb _ _ c.if-limit-bank_word.true)))
-
-pub loop-b-preserved : goal.loop-b-preserved
-loop-b-preserved c = passed_more c.loop-b.invariant c.loop-b-test.true (rw (← c.bank_word.ensures) (le-leb _ _ c.if-limit-bank_word.false))
 
 pub returns : goal.returns
 unfolding bank_words
-returns c = sym (passed_all c.loop-b.invariant c.loop-b-test.false)
+returns c =
+    let a = c.args in
+    below_from_all (λ b. leb (le 4 a.c.bytes.now (bank_entry_at a.c.banks a.i b + a.from)) a.limit) a.c.banks _ _ c.all.result refl c.all.ensures.ran
+    (λ x b q k. search (rules, tests))

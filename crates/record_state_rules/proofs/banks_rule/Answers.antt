@@ -1,28 +1,27 @@
--- `banks_rule` meets its contract. The loop's invariant: the banks below b are right. Assumes nothing.
-use Prim.Native.Nat.{◌-◌}
-use mathlib.Core.Path.{sym, ◌∙◌}
-use native.Mathlib.Omega.{arith}
-use Rattle.record_layout.proofs.Below.{passed_none, passed_more, passed_stop, passed_all}
-use Rattle.record_layout.proofs.Sizes.{header_in}
+-- `banks_rule` meets its contract: each bank is tested, then the active bank. Assumes nothing.
+use mathlib.Core.Path.{◌≡◌, refl, sym, ◌∙◌}
+use Rattle.std.proofs.Common.{rules}
+use Rattle.record_layout.proofs.Every.{below_from_all}
+use Rattle.record_layout.specs.Every.{below}
+use Rattle.record_layout.specs.Layout.{bank_count}
 use Rattle.record_layout.specs.Rules.{bank_consistent, banks_rule}
 use Rattle.record_state_rules.proofs.banks_rule.Goals as goal
+use Rattle.record_state_rules.proofs.banks_rule.Goals.{After-all}
 
-pub loop-b-init : goal.loop-b-init
-loop-b-init c = passed_none
+each_bank : (c : After-all) → c.all.result ≡ below (bank_count c.args.c.bytes.now) (bank_consistent c.args.c.bytes.now)
+each_bank c =
+    let a = c.args in
+    rw c.args.c.sized.banks_is
+    (below_from_all (bank_consistent a.c.bytes.now) a.c.banks _ _ c.all.result refl c.all.ensures.ran (λ x b q k. search rules))
 
-pub bank_consistent-requires : goal.bank_consistent-requires
-bank_consistent-requires c = (c.requires.0, c.loop-b-test.true)
-
-pub returns-then-not-bank_consistent : goal.returns-then-not-bank_consistent
+pub returns-then-all : goal.returns-then-all
 unfolding banks_rule
-returns-then-not-bank_consistent c = rw (c.requires.0.banks_is, passed_stop c.loop-b.invariant c.loop-b-test.true (sym c.bank_consistent.ensures ∙ c.if-not-bank_consistent.true))
+returns-then-all c =
+    let tested = sym (each_bank (goal.at.returns-then-all c).After-all) ∙ c.if-all.true in
+    rw (tested, ← c.active.ensures, c.state.ensures)
 
-pub loop-b-preserved : goal.loop-b-preserved
-loop-b-preserved c = passed_more c.loop-b.invariant c.loop-b-test.true (sym c.bank_consistent.ensures ∙ c.if-not-bank_consistent.false)
-
-pub state-requires : goal.state-requires
-state-requires c = (header_in c.args.r.now c.args.banks c.args.images c.requires.0, omega (arith, c.requires.0.banks_high, c.requires.1))
-
-pub returns : goal.returns
+pub returns-else-all : goal.returns-else-all
 unfolding banks_rule
-returns c = rw (c.requires.0.banks_is, passed_all c.loop-b.invariant c.loop-b-test.false, ← c.requires.2, c.state.ensures)
+returns-else-all c =
+    let tested = sym (each_bank (goal.at.returns-else-all c).After-all) ∙ c.if-all.false in
+    rw (tested, c.if-all.false)
