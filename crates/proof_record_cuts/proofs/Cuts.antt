@@ -3,10 +3,11 @@ use mathlib.Core.Path.{◌≡◌, refl, sym, ap, ◌∙◌}
 use mathlib.Core.Logic.{◌≢◌, inl, inr, ⊎_elim}
 use mathlib.Core.Bool.{Bool, true, false, cond, ◌&&◌}
 use mathlib.Core.Option.{Option, none, some}
+use Rattle.std.specs.Prelude.{Some, None}
+use Rattle.std.specs.Prelude as std
 use mathlib.Core.List.{List, [], ◌∷◌, ◌++◌, map, append-nil}
-use Prim.Native.Nat.{ℕ, ◌+◌, ◌≤◌}
+use Prim.Native.Nat.{ℕ, ◌≤◌}
 use native.Mathlib.Nat.{zero-add}
-use native.Mathlib.Omega.{arith}
 use lib.ListN.{length}
 use Rattle.fields.specs.Number.{Bytes}
 use Rattle.fields.specs.Guid.{same}
@@ -16,7 +17,7 @@ use Rattle.record_layout.specs.Layout.{area_size, copy_size, record_of, copy0, c
 use Rattle.record_layout.specs.Rules.{sound, sound_copy}
 use Rattle.record_copies.specs.Copies.{source_of, read_from, record_read, records_equal, sound_and_equal}
 use Rattle.record_copies.specs.declared.Source.{Source}
-use Rattle.record_copies.specs.declared.Source.TheVariants.{Copy0, Copy1, Neither}
+use Rattle.record_copies.specs.declared.Source.TheVariants.{Copy0, Copy1}
 use Rattle.record_stores.specs.Stores.{Store, shift, plan}
 use Rattle.record_store_lists.specs.ChangeStores.{copy_stores, change_stores, other_stores, repair_stores}
 use Rattle.proof_format_cuts.specs.Area.{after_cut}
@@ -32,10 +33,9 @@ abbrev holds : Option (List ℕ) → Bool
 holds none = false
 holds (some r) = true
 
-abbrev a_copy : Source → Bool
-a_copy Neither = false
-a_copy Copy0 = true
-a_copy Copy1 = true
+abbrev a_copy : std.Option Source → Bool
+a_copy None = false
+a_copy (Some s) = true
 
 read_is : (a r : List ℕ) → general.record_read version2 a ≡ some r → IsRead a r
 unfolding general.record_read general.read_of format.sound_copy format.record_of version2 sound_copy record_of source_of read_from
@@ -47,12 +47,12 @@ read_is a r e = go (sound_copy (copy0 a)) (sound_copy (copy1 a)) refl refl e
     go false true p q e = record { one_sound = rw (p, q) (λ z. no_true (sym (ap a_copy z))); is = rw (p, q) cc }
     go false false p q e = absurd (no_true (ap holds e))
 
-read_some : (a : List ℕ) → source_of a ≢ Neither → general.record_read version2 a ≡ some (record_read a)
+read_some : (a : List ℕ) → source_of a ≢ None → general.record_read version2 a ≡ some (record_read a)
 unfolding general.record_read general.read_of format.sound_copy format.record_of version2 sound_copy record_of source_of read_from
 read_some a h = go (sound_copy (copy0 a)) (sound_copy (copy1 a)) h
   where
-    go : (s t : Bool) → cond s Copy0 (cond t Copy1 Neither) ≢ Neither
-        → cond s (some (record_of (copy0 a))) (cond t (some (record_of (copy1 a))) none) ≡ some (read_from (cond s Copy0 (cond t Copy1 Neither)) a)
+    go : (s t : Bool) → cond s (Some Copy0) (cond t (Some Copy1) None) ≢ None
+        → cond s (some (record_of (copy0 a))) (cond t (some (record_of (copy1 a))) none) ≡ some (read_from (cond s (Some Copy0) (cond t (Some Copy1) None)) a)
     go true t h = refl
     go false true h = refl
     go false false h = absurd (h refl)
@@ -117,8 +117,8 @@ apart : (c d : List ℕ) → sound_copy c ≡ true → sound_copy d ≡ false �
 unfolding sound_copy
 apart c d p q e = no_true (sym q ∙ ap sound e ∙ p)
 
-abbrev from : Bool → Bool → Source
-from s t = cond s Copy0 (cond t Copy1 Neither)
+abbrev from : Bool → Bool → std.Option Source
+from s t = cond s (Some Copy0) (cond t (Some Copy1) None)
 
 module _ (a : List ℕ) where
   abbrev r0 : List ℕ
@@ -127,11 +127,11 @@ module _ (a : List ℕ) where
   abbrev r1 : List ℕ
   r1 = record_of (copy1 a)
 
-  repair_is : source_of a ≢ Neither → change_stores a (record_read a) ≡ repair_stores a
+  repair_is : source_of a ≢ None → change_stores a (record_read a) ≡ repair_stores a
   unfolding change_stores repair_stores sound_and_equal records_equal other_stores source_of read_from
   repair_is h = go (sound_copy (copy0 a)) (sound_copy (copy1 a)) (same r0 r1) refl refl refl h
     where
-      go : (s t e : Bool) → sound_copy (copy0 a) ≡ s → sound_copy (copy1 a) ≡ t → same r0 r1 ≡ e → from s t ≢ Neither
+      go : (s t e : Bool) → sound_copy (copy0 a) ≡ s → sound_copy (copy1 a) ≡ t → same r0 r1 ≡ e → from s t ≢ None
           → copy_stores 0 (copy0 a) (read_from (from s t) a) ++ copy_stores copy_size (copy1 a) (read_from (from s t) a)
           ≡ cond ((s && t) && e) [] (other_stores (from s t) a)
       go true true true p q z h = rw (spared 0 (copy0 a) r0 refl, spared copy_size (copy1 a) r0 (sym (same_true r0 r1 z)))
@@ -183,7 +183,7 @@ module _ (a new : List ℕ) (l : length a ≡ area_size) (b : Bytes a) (e : soun
       }
 
 -- a repair
-module _ (a : List ℕ) (l : length a ≡ area_size) (b : Bytes a) (s : source_of a ≢ Neither) where
+module _ (a : List ℕ) (l : length a ≡ area_size) (b : Bytes a) (s : source_of a ≢ None) where
   stores_are : general.change_list version2 planned a (record_read a) ≡ repair_stores a
   stores_are = change_is a (record_read a) ∙ repair_is a s
 

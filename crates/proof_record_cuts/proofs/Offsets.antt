@@ -3,6 +3,7 @@ use mathlib.Core.Path.{◌≡◌, refl}
 use mathlib.Core.Logic.{inl, inr}
 use mathlib.Core.Bool.{Bool, true, false, cond}
 use mathlib.Core.List.{List, []}
+use Rattle.std.specs.Prelude.{Option, Some, None}
 use Prim.Native.Nat.{ℕ, ◌+◌, ◌*◌, ◌-◌, ◌/◌, ◌%◌, ◌≤◌}
 use native.Mathlib.Omega.{arith}
 use lib.ListN.{length, drop, length-map, length-append}
@@ -13,7 +14,7 @@ use Rattle.record_layout.specs.Layout.{copy_size, version_at, record_of, copy0, 
 use Rattle.record_layout.specs.Rules.{sound}
 use Rattle.record_copies.specs.Copies.{source_of, read_from, record_read, sound_and_equal}
 use Rattle.record_copies.specs.declared.Source.{Source}
-use Rattle.record_copies.specs.declared.Source.TheVariants.{Copy0, Copy1, Neither}
+use Rattle.record_copies.specs.declared.Source.TheVariants.{Copy0, Copy1}
 use Rattle.record_copies.proofs.Reading.{from_copy0, from_copy1}
 use Rattle.record_stores.specs.Stores.{Store, store, shift, store_numbers, other_words, differing, writes, plan}
 use Rattle.record_stores.specs.Added.{copy_pairs}
@@ -95,17 +96,17 @@ change_count a new h =
     each_few base c = copy_by (λ ss. length ss ≤ copy_pairs) base c new (omega arith) (few base c new h)
 
 -- ---- a repair lists one into the other copy, or none
-repair_by : (Q : List Store → Type 0) (a : List ℕ) → Q [] → (source_of a ≡ Copy0 → Q (plan copy_size (copy1 a) (record_of (copy0 a))))
-    → (source_of a ≡ Copy1 → Q (plan 0 (copy0 a) (record_of (copy1 a))))
+repair_by : (Q : List Store → Type 0) (a : List ℕ) → Q [] → (source_of a ≡ Some Copy0 → Q (plan copy_size (copy1 a) (record_of (copy0 a))))
+    → (source_of a ≡ Some Copy1 → Q (plan 0 (copy0 a) (record_of (copy1 a))))
     → Q (repair_stores a)
 unfolding repair_stores other_stores read_from
 repair_by Q a none p q = go (sound_and_equal a) (source_of a) refl
   where
-    go : (t : Bool) (s : Source) → source_of a ≡ s → Q (cond t [] (other_stores s a))
+    go : (t : Bool) (s : Option Source) → source_of a ≡ s → Q (cond t [] (other_stores s a))
     go true s e = none
-    go false Copy0 e = p e
-    go false Copy1 e = q e
-    go false Neither e = none
+    go false (Some Copy0) e = p e
+    go false (Some Copy1) e = q e
+    go false None e = none
 
 repair_placed : (a : List ℕ) → Each (StoreWithin (other_at (source_of a)) (length (record_read a))) (repair_stores a)
 unfolding read_from

@@ -2,19 +2,18 @@
 -- definitions: the record read of crates/record_copies, the stores of crates/record_store_lists. a is the bytes of an
 -- area; old is the record that both copies hold before a change, new the one that it writes; n is how many of the
 -- stores listed are done before the cut. Assumes nothing.
-use Rattle.std.specs.Prelude.{ℕ, ◌≤◌, ◌≡◌, ◌≢◌, ◌⊎◌, true, List, [], ◌++◌, length}
+use Rattle.std.specs.Prelude.{ℕ, ◌≤◌, ◌≡◌, ◌≢◌, ◌⊎◌, true, List, [], ◌++◌, length, None}
 use Rattle.fields.specs.Number.{Bytes}
 use Rattle.record_layout.specs.Layout.{area_size, record_of, copy0, copy1}
 use Rattle.record_layout.specs.Rules.{sound, sound_copy}
 use Rattle.record_copies.specs.Copies.{source_of, record_read, sound_and_equal}
-use Rattle.record_copies.specs.declared.Source.TheVariants.{Neither}
 use Rattle.record_store_lists.specs.ChangeStores.{change_stores, repair_stores}
 use Rattle.proof_format_cuts.specs.Area.{after_cut}
 use Rattle.proof_format_cuts.specs.Format.{over}
 
 -- the record r is read from a
 pub record IsRead (a r : List ℕ) : Type 0 where
-  pub one_sound : source_of a ≢ Neither
+  pub one_sound : source_of a ≢ None
   pub is : record_read a ≡ r
 
 -- both copies of a are sound and hold the record r
@@ -66,8 +65,8 @@ pub record RepairCut (a : List ℕ) (n : ℕ) : Type 0 where
 pub record RecordCuts : Type 0 where
   pub change : (a new : List ℕ) (n : ℕ) → length a ≡ area_size → Bytes a → sound_and_equal a ≡ true → Bytes new → sound new ≡ true
       → ChangeCut a (record_of (copy0 a)) new n
-  pub repair : (a : List ℕ) (n : ℕ) → length a ≡ area_size → Bytes a → source_of a ≢ Neither → RepairCut a n
-  pub again : (a : List ℕ) → source_of a ≢ Neither → change_stores a (record_read a) ≡ repair_stores a
+  pub repair : (a : List ℕ) (n : ℕ) → length a ≡ area_size → Bytes a → source_of a ≢ None → RepairCut a n
+  pub again : (a : List ℕ) → source_of a ≢ None → change_stores a (record_read a) ≡ repair_stores a
   pub none : (a : List ℕ) → sound_and_equal a ≡ true → repair_stores a ≡ []
   pub held : (a : List ℕ) → sound_and_equal a ≡ true → BothHold a (record_of (copy0 a))
   pub equal : (a r : List ℕ) → BothHold a r → sound_and_equal a ≡ true

@@ -1,13 +1,13 @@
 -- The rules on the lists of stores (R22, R24, R25), in the product's own definitions: where each store lies, that it is
 -- one word, and how many there are. a is the bytes of an area, c those of a copy, r and new those of a record. Assumes
 -- nothing.
-use Rattle.std.specs.Prelude.{ℕ, ◌+◌, ◌*◌, ◌/◌, ◌%◌, ◌^◌, ◌≤◌, ◌<◌, ◌≡◌, ◌⊎◌, true, List, length}
+use Rattle.std.specs.Prelude.{ℕ, ◌+◌, ◌*◌, ◌/◌, ◌%◌, ◌^◌, ◌≤◌, ◌<◌, ◌≡◌, ◌⊎◌, true, List, length, Option, Some, None}
 use Rattle.fields.specs.Number.{Bytes}
 use Rattle.record_layout.specs.Layout.{copy_size}
 use Rattle.record_layout.specs.Rules.{sound}
 use Rattle.record_copies.specs.Copies.{source_of, record_read}
 use Rattle.record_copies.specs.declared.Source.{Source}
-use Rattle.record_copies.specs.declared.Source.TheVariants.{Copy0, Copy1, Neither}
+use Rattle.record_copies.specs.declared.Source.TheVariants.{Copy0, Copy1}
 use Rattle.record_stores.specs.Stores.{Store, store_numbers, plan}
 use Rattle.proof_format_cuts.specs.Area.{Each}
 use Rattle.record_store_lists.specs.ChangeStores.{change_stores, repair_stores}
@@ -27,10 +27,10 @@ abbrev pub InWord : Store → Type 0
 InWord s = s.1 < 2 ^ 32
 
 -- where the other copy stands than the one that is read (R27). Where none is read there is no store
-abbrev pub other_at : Source → ℕ
-other_at Copy0 = copy_size
-other_at Copy1 = 0
-other_at Neither = 0
+abbrev pub other_at : Option Source → ℕ
+other_at (Some Copy0) = copy_size
+other_at (Some Copy1) = 0
+other_at None = 0
 
 -- every list fits a slice of the least length (R24)
 pub record StoreRules : Type 0 where

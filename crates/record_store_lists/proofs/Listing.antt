@@ -3,10 +3,10 @@ use mathlib.Core.Path.{◌≡◌, sym, ◌∙◌}
 use mathlib.Core.Bool.{true, false}
 use mathlib.Core.List.{List, [], ◌++◌}
 use Prim.Native.Nat.{ℕ}
+use Rattle.std.specs.Prelude.{Some}
 use Rattle.fields.specs.Guid.{same}
 use Rattle.record_layout.specs.Layout.{copy_size, record_of, copy0, copy1}
 use Rattle.record_copies.specs.Copies.{source_of, read_from, sound_and_equal}
-use Rattle.record_copies.specs.declared.Source.{Source}
 use Rattle.record_copies.specs.declared.Source.TheVariants.{Copy0, Copy1}
 use Rattle.record_copies.proofs.Reading.{copy0_unsound, equal_same}
 use Rattle.record_stores.specs.Stores.{Store, plan}
@@ -46,10 +46,10 @@ module _ (a : List ℕ) where
   unfolding repair_stores
   repair_none h = rw (← h)
 
-  pub repair_copy1 : (s : Source) → s ≡ source_of a → s ≡ Copy0 → false ≡ sound_and_equal a → repair_stores a ≡ plan copy_size (copy1 a) (read_from s a)
+  pub repair_copy1 : source_of a ≡ Some Copy0 → false ≡ sound_and_equal a → repair_stores a ≡ plan copy_size (copy1 a) (read_from (source_of a) a)
   unfolding repair_stores other_stores
-  repair_copy1 s e z h = rw (← h, ← e, z)
+  repair_copy1 e h = rw (← h, e)
 
-  pub repair_copy0 : (s : Source) → s ≡ source_of a → s ≡ Copy1 → repair_stores a ≡ plan 0 (copy0 a) (read_from s a)
+  pub repair_copy0 : source_of a ≡ Some Copy1 → repair_stores a ≡ plan 0 (copy0 a) (read_from (source_of a) a)
   unfolding repair_stores other_stores sound_and_equal
-  repair_copy0 s e z = rw (copy0_unsound a (sym e ∙ z), ← e, z)
+  repair_copy0 e = rw (copy0_unsound a e, e)

@@ -3,10 +3,9 @@
 // nothing.
 #![tactic(auto)]
 
-ghost use Rattle.std.specs.Prelude.{◌≡◌, ◌≢◌, ◌≤◌, length};
+ghost use Rattle.std.specs.Prelude.{◌≡◌, ◌≤◌, length, Some};
 ghost use Rattle.record_layout.specs.Layout.{area_size, copy0, record_of};
 ghost use Rattle.record_copies.specs.Copies.{source_of};
-ghost use Rattle.record_copies.specs.declared.Source.TheVariants.{Neither};
 ghost use Rattle.record_stores.specs.Stores.{store_numbers};
 ghost use Rattle.record_store_lists.specs.ChangeStores.{change_stores, repair_stores};
 ghost use Rattle.record_alterations.specs.Altered.{record_with, Within};
@@ -36,18 +35,20 @@ pub fn list_change(area: &[u8], x: Alteration, out: &mut [u32]) -> usize
 
 // Lists the stores of a repair: the record read into the other copy; none where the copies are sound and equal.
 pub fn list_repair(area: &[u8], from: Source, out: &mut [u32]) -> usize
-    requires { (length area.now ≡ area_size) × (from ≡ source_of area.now) × (from ≢ Neither) × (store_numbers ≤ length out.old) }
+    requires { (length area.now ≡ area_size) × (source_of area.now ≡ Some from) × (store_numbers ≤ length out.old) }
     ensures { AtFront result (repair_stores area.now) out.old out.new }
 {
     let r = read_record(area, from);
     let banks = bank_count(r);
     let x = unaltered(r);
     let crc = read32(r, CRC_AT);
-    if let Source::Copy0 = from {
-        if second_agrees(area) {
-            return 0;
+    match from {
+        Source::Copy0 => {
+            if second_agrees(area) {
+                return 0;
+            }
+            put_copy(area, COPY, r, banks, x, crc, out, 0)
         }
-        return put_copy(area, COPY, r, banks, x, crc, out, 0);
+        Source::Copy1 => put_copy(area, 0, r, banks, x, crc, out, 0),
     }
-    put_copy(area, 0, r, banks, x, crc, out, 0)
 }

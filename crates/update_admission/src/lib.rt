@@ -9,32 +9,21 @@ ghost use Rattle.update_admission.specs.Rows.{area_tests};
 use record_copies::{Source, read_source, second_agrees};
 use record_layout::AREA;
 use record_stores::STORE_NUMBERS;
-use refusal_order::Verdict;
 use refusals::Refusal;
 
 // 20, 23, 21 and 22, in that order.
-pub fn admit_area(area: &[u8], numbers: usize) -> Verdict
+#[tactic(auto, unfolding(refusal_order::specs::Decide::decide, crate::specs::Rows::area_tests, crate::specs::Rows::repair_tests))]
+pub fn admit_area(area: &[u8], numbers: usize) -> Result<(), Refusal>
     ensures { decision_of result ≡ decide (area_tests area.now numbers) }
 {
     if area.len() != AREA {
-        return Verdict::Refused(Refusal::AreaLength);
+        return Err(Refusal::AreaLength);
     }
     if numbers < STORE_NUMBERS {
-        return Verdict::Refused(Refusal::StoreSlice);
+        return Err(Refusal::StoreSlice);
     }
-    let from = read_source(area);
-    match from {
-        Source::Copy0 => {
-            if !second_agrees(area) {
-                return Verdict::Refused(Refusal::NotSoundAndEqual);
-            }
-            return Verdict::Passed;
-        }
-        Source::Copy1 => {
-            return Verdict::Refused(Refusal::NotSoundAndEqual);
-        }
-        Source::Neither => {
-            return Verdict::Refused(Refusal::NoSoundCopy);
-        }
+    match read_source(area).ok_or(Refusal::NoSoundCopy)? {
+        Source::Copy0 if second_agrees(area) => Ok(()),
+        _ => Err(Refusal::NotSoundAndEqual),
     }
 }

@@ -21,22 +21,19 @@ fn begin_alteration(r: &[u8]) -> Alteration
     ensures { Makes result r.now (begun_record r.now) }
 {
     let bank = update_bank(r);
-    let images = image_count(r);
-    let mut x = unaltered(r);
-    x.states = states_with(r, bank, INVALID);
-    x.bank = bank;
-    x.count = images;
-    x
+    Alteration {
+        states: states_with(r, bank, INVALID),
+        bank,
+        count: image_count(r),
+        ..unaltered(r)
+    }
 }
 
 // The accepted word for a request (S8).
 fn flag_for(request: u32) -> u32
     ensures { result ≡ cond (eqb request 0) 1 0 }
 {
-    if request == 0 {
-        return 1;
-    }
-    0
+    u32::from(request == 0)
 }
 
 // Commit of image i, in the update bank (S8).
@@ -44,12 +41,13 @@ fn commit_alteration(r: &[u8], i: usize, request: u32) -> Alteration
     requires { (sound r.now ≡ true) × (i < image_count r.now) }
     ensures { Makes result r.now (committed_record i request r.now) }
 {
-    let mut x = unaltered(r);
-    x.bank = update_bank(r);
-    x.first = i;
-    x.count = 1;
-    x.flag = flag_for(request);
-    x
+    Alteration {
+        bank: update_bank(r),
+        first: i,
+        count: 1,
+        flag: flag_for(request),
+        ..unaltered(r)
+    }
 }
 
 // The state that End gives bank b (S10).
@@ -58,9 +56,10 @@ fn end_state(r: &[u8], b: usize) -> u8
     ensures { result ≡ cond (all_accepted r.now b) accepted_bank valid }
 {
     if all_accepted(r, bank_count(r), image_count(r), b) {
-        return ACCEPTED;
+        ACCEPTED
+    } else {
+        VALID
     }
-    VALID
 }
 
 // End: previous takes active, active takes the update bank (S10).
@@ -69,12 +68,13 @@ fn end_alteration(r: &[u8]) -> Alteration
     ensures { Makes result r.now (ended_record r.now) }
 {
     let bank = update_bank(r);
-    let s = end_state(r, bank);
-    let mut x = unaltered(r);
-    x.previous = x.active;
-    x.active = bank as u32;
-    x.states = states_with(r, bank, s);
-    x
+    let old = unaltered(r);
+    Alteration {
+        active: bank as u32,
+        previous: old.active,
+        states: states_with(r, bank, end_state(r, bank)),
+        ..old
+    }
 }
 
 // The bank states once image i is accepted in the active bank (S13).
@@ -83,9 +83,10 @@ fn accept_states(r: &[u8], i: usize) -> u32
     ensures { result ≡ le 4 (with_full i r.now) (state_at 0) }
 {
     if all_accepted_after(r, i) {
-        return states_with(r, active(r) as usize, ACCEPTED);
+        states_with(r, active(r) as usize, ACCEPTED)
+    } else {
+        states(r)
     }
-    states(r)
 }
 
 // Accept of image i, in the active bank (S13).
@@ -93,13 +94,15 @@ fn accept_alteration(r: &[u8], i: usize) -> Alteration
     requires { (sound r.now ≡ true) × (i < image_count r.now) }
     ensures { Makes result r.now (accepted_record i r.now) }
 {
-    let mut x = unaltered(r);
-    x.states = accept_states(r, i);
-    x.bank = x.active as usize;
-    x.first = i;
-    x.count = 1;
-    x.flag = 1;
-    x
+    let x = unaltered(r);
+    Alteration {
+        states: accept_states(r, i),
+        bank: x.active as usize,
+        first: i,
+        count: 1,
+        flag: 1,
+        ..x
+    }
 }
 
 // Select previous: active and previous exchanged (S16).
@@ -107,11 +110,12 @@ fn exchange_alteration(r: &[u8]) -> Alteration
     requires { sound r.now ≡ true }
     ensures { Makes result r.now (exchanged_record r.now) }
 {
-    let mut x = unaltered(r);
-    let bank = x.active;
-    x.active = x.previous;
-    x.previous = bank;
-    x
+    let x = unaltered(r);
+    Alteration {
+        active: x.previous,
+        previous: x.active,
+        ..x
+    }
 }
 
 // The words that a change alters.
@@ -120,23 +124,11 @@ pub fn alteration_for(r: &[u8], change: Change) -> Alteration
     ensures { Makes result r.now (changed_by change r.now) }
 {
     match change {
-        Change::Nothing => {
-            return unaltered(r);
-        }
-        Change::Begin => {
-            return begin_alteration(r);
-        }
-        Change::Commit { image, request } => {
-            return commit_alteration(r, image, request);
-        }
-        Change::End => {
-            return end_alteration(r);
-        }
-        Change::Accept { image } => {
-            return accept_alteration(r, image);
-        }
-        Change::Exchange => {
-            return exchange_alteration(r);
-        }
+        Change::Nothing => unaltered(r),
+        Change::Begin => begin_alteration(r),
+        Change::Commit { image, request } => commit_alteration(r, image, request),
+        Change::End => end_alteration(r),
+        Change::Accept { image } => accept_alteration(r, image),
+        Change::Exchange => exchange_alteration(r),
     }
 }

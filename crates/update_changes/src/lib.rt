@@ -3,7 +3,7 @@
 // copied.
 #![tactic(auto)]
 
-ghost use Rattle.std.specs.Prelude.{◌≡◌, true, ◌+◌, ◌*◌, ◌<◌, eqb, length};
+ghost use Rattle.std.specs.Prelude.{◌≡◌, true, ◌<◌, eqb, length, MatchOption};
 ghost use Rattle.fields.specs.Number.{le};
 ghost use Rattle.record_layout.specs.Layout.{bank_limit, accepted, active, previous, state, state_at, bank_count, image_count};
 ghost use Rattle.record_layout.specs.Rules.{accepted_bank, all_accepted, sound};
@@ -16,8 +16,8 @@ use record_layout::{
 };
 
 // What a call alters in the record: nothing; or what the call's rule says, by image and not by GUID. The record that
-// each makes is `changedBy` of specs/Changed.antt.
-#[derive(Clone, Copy)]
+// each makes is `changed_by` of specs/Changed.antt.
+#[derive(Clone, Copy, Debug, PartialEq, Eq)]
 pub enum Change {
     Nothing,
     Begin,
@@ -27,21 +27,19 @@ pub enum Change {
     Exchange,
 }
 
-// The image with that type GUID, or the image count where no entry has it.
-pub fn image_of(r: &[u8], guid: &[u8]) -> usize
+// The image with that type GUID, if an entry has it.
+pub fn image_of(r: &[u8], guid: &[u8]) -> Option<usize>
     requires { (sound r.now ≡ true) × (length guid.now ≡ 16) }
-    ensures { result ≡ image_with guid.now r.now }
+    ensures { MatchOption result (image_with guid.now r.now ≡ image_count r.now)
+        (λ i. (i ≡ image_with guid.now r.now) × (i < image_count r.now)) }
 {
     let banks = bank_count(r);
-    let images = image_count(r);
-    let mut i = 0;
-    while i < images {
+    for i in 0..image_count(r) {
         if same_guid(r, entry_at(banks, i), guid, 0) {
-            return i;
+            return Some(i);
         }
-        i += 1;
     }
-    images
+    None
 }
 
 // Whether image k of the active bank is accepted once image i is.
@@ -49,10 +47,7 @@ fn accepted_after(r: &[u8], i: usize, k: usize) -> bool
     requires { (sound r.now ≡ true) × (i < image_count r.now) × (k < image_count r.now) }
     ensures { result ≡ eqb (accepted (marked i r.now) k (active r.now)) 1 }
 {
-    if k == i {
-        return true;
-    }
-    accepted_word(r, bank_count(r), k, active(r) as usize) == 1
+    k == i || accepted_word(r, bank_count(r), k, active(r) as usize) == 1
 }
 
 // Whether every image of the active bank is accepted once image i is.
@@ -60,15 +55,7 @@ pub fn all_accepted_after(r: &[u8], i: usize) -> bool
     requires { (sound r.now ≡ true) × (i < image_count r.now) }
     ensures { result ≡ all_accepted (marked i r.now) (active r.now) }
 {
-    let images = image_count(r);
-    let mut k = 0;
-    while k < images {
-        if !accepted_after(r, i, k) {
-            return false;
-        }
-        k += 1;
-    }
-    true
+    (0..image_count(r)).all(|k| accepted_after(r, i, k))
 }
 
 // The state of bank k once that of bank b is s.
@@ -76,17 +63,7 @@ fn state_with(r: &[u8], b: usize, s: u8, k: usize) -> u8
     requires { (sound r.now ≡ true) × (b < bank_count r.now) × (k < bank_limit) }
     ensures { result ≡ state (set_state b s r.now) k }
 {
-    if k == b {
-        return s;
-    }
-    state(r, k)
-}
-
-// Two bytes as one number, the low one first.
-fn pair(low: u8, high: u8) -> u32
-    ensures { (result ≡ low + 256 * high) × (result < 65536) }
-{
-    low as u32 + 256 * (high as u32)
+    if k == b { s } else { state(r, k) }
 }
 
 // The word of the four bank states once that of bank b is s.
@@ -94,9 +71,12 @@ pub fn states_with(r: &[u8], b: usize, s: u8) -> u32
     requires { (sound r.now ≡ true) × (b < bank_count r.now) }
     ensures { result ≡ le 4 (set_state b s r.now) (state_at 0) }
 {
-    let low = pair(state_with(r, b, s, 0), state_with(r, b, s, 1));
-    let high = pair(state_with(r, b, s, 2), state_with(r, b, s, 3));
-    low + 65536 * high
+    u32::from_le_bytes([
+        state_with(r, b, s, 0),
+        state_with(r, b, s, 1),
+        state_with(r, b, s, 2),
+        state_with(r, b, s, 3),
+    ])
 }
 
 // The update bank (S4).
@@ -104,8 +84,7 @@ pub fn update_bank(r: &[u8]) -> usize
     requires { sound r.now ≡ true }
     ensures { (result ≡ update_bank_of r.now) × (result < bank_count r.now) }
 {
-    let banks = bank_count(r);
-    (active(r) as usize + 1) % banks
+    (active(r) as usize + 1) % bank_count(r)
 }
 
 // Whether the previous bank is accepted.
@@ -113,6 +92,5 @@ pub fn previous_accepted(r: &[u8]) -> bool
     requires { sound r.now ≡ true }
     ensures { result ≡ eqb (state r.now (previous r.now)) accepted_bank }
 {
-    let bank = previous(r) as usize;
-    state(r, bank) == ACCEPTED
+    state(r, previous(r) as usize) == ACCEPTED
 }

@@ -19,16 +19,11 @@ pub fn staged(r: &[u8], bank: u32, set: u32) -> bool
     requires { sound r.now ≡ true }
     ensures { result ≡ staged_fits bank set r.now }
 {
-    if bank as usize != update_bank(r) {
-        return false;
-    }
-    if state(r, bank as usize) != INVALID {
-        return false;
-    }
     // no bit at or past the image count: so many zeros stand at the set's top that with the images they make its width,
     // or more
-    let images = image_count(r) as u32;
-    SET_BITS <= images + u32::leading_zeros(set)
+    bank as usize == update_bank(r)
+        && state(r, bank as usize) == INVALID
+        && SET_BITS <= image_count(r) as u32 + u32::leading_zeros(set)
 }
 
 // The set with image i too.
@@ -44,6 +39,5 @@ pub fn missing_images(r: &[u8], set: u32) -> u32
     requires { (sound r.now ≡ true) × (set < 2 ^ image_count r.now) }
     ensures { result ≡ missing set r.now }
 {
-    let images = image_count(r) as u32;
-    images - u32::count_ones(set)
+    image_count(r) as u32 - u32::count_ones(set)
 }

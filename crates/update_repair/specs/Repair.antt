@@ -2,17 +2,10 @@
 -- crates/record_store_lists/specs/ChangeStores.antt; what must hold of them is said in crates/proof_power_cuts/specs. a
 -- is the bytes of the area, s the numbers of the store slice. Assumes nothing.
 use Rattle.std.specs.Prelude.{ℕ, List, length}
-use Rattle.refusal_order.specs.Decide.{Decision, passed, refusal, decide, Reply, gives, refuses, refusing}
+use Rattle.refusal_order.specs.Decide.{Decision, passed, refusal, decide, Reply, gives, refuses}
 use Rattle.record_stores.specs.Stores.{with_list}
 use Rattle.record_store_lists.specs.ChangeStores.{repair_stores}
 use Rattle.update_admission.specs.Rows.{repair_tests}
-use Rattle.update_repair.specs.declared.Repaired.{Repaired}
-use Rattle.update_repair.specs.declared.Repaired.TheVariants.{Listed, Refused}
-
--- what each case of the answer states: how many pairs stand in the store list
-abbrev pub repair_reply : Repaired → Reply ℕ
-repair_reply (Listed n) = gives n
-repair_reply (Refused r) = refusing r
 
 -- accepted with a list at the slice's front, or refused with the slice as it was
 unfoldable pub repaired_by : Decision → (a s : List ℕ) → Reply ℕ × List ℕ

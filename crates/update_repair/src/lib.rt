@@ -2,36 +2,26 @@
 #![tactic(auto)]
 
 ghost use Rattle.std.specs.Prelude.{◌≡◌};
-ghost use Rattle.update_repair.specs.Repair.{repair_reply, repaired};
+ghost use Rattle.refusal_order.specs.Decide.{reply_of};
+ghost use Rattle.update_repair.specs.Repair.{repaired};
 
-use record_copies::{Source, read_source};
+use record_copies::read_source;
 use record_layout::AREA;
 use record_store_lists::list_repair;
 use record_stores::STORE_NUMBERS;
 use refusals::Refusal;
 
-// How many pairs repair listed, or the refusal.
-#[derive(Clone, Copy)]
-pub enum Repaired {
-    Listed(usize),
-    Refused(Refusal),
-}
-
-// Lists in `out` the stores that make the copies sound and equal: pairs of an offset and a word, to be done in list
-// order. Numbers past the list stay, and on a refusal every number does.
-pub fn repair(area: &[u8], out: &mut [u32]) -> Repaired
-    ensures { (repair_reply result, out.new) ≡ repaired area.now out.old }
+// Lists in `out` the stores that make the copies sound and equal, and answers how many: pairs of an offset and a word,
+// to be done in list order. Numbers past the list stay, and on a refusal every number does.
+pub fn repair(area: &[u8], out: &mut [u32]) -> Result<usize, Refusal>
+    ensures { (reply_of result, out.new) ≡ repaired area.now out.old }
 {
     if area.len() != AREA {
-        return Repaired::Refused(Refusal::AreaLength);
+        return Err(Refusal::AreaLength);
     }
     if out.len() < STORE_NUMBERS {
-        return Repaired::Refused(Refusal::StoreSlice);
+        return Err(Refusal::StoreSlice);
     }
-    let from = read_source(area);
-    if let Source::Neither = from {
-        return Repaired::Refused(Refusal::NoSoundCopy);
-    }
-    let n = list_repair(area, from, out);
-    Repaired::Listed(n)
+    let from = read_source(area).ok_or(Refusal::NoSoundCopy)?;
+    Ok(list_repair(area, from, out))
 }

@@ -2,20 +2,13 @@
 -- the record read. Assumes nothing.
 use Rattle.std.specs.Prelude.{ℕ, cond, List, [], ◌∷◌, ◌++◌, eqb, leb}
 use Rattle.refusals.specs.declared.Refusal.TheVariants.{BootedBank}
-use Rattle.refusal_order.specs.Decide.{Test, decide, Reply, gives, refusing, reply}
+use Rattle.refusal_order.specs.Decide.{Test, decide, Reply, reply}
 use Rattle.record_layout.specs.Layout.{active, state, bank_count}
 use Rattle.record_layout.specs.Rules.{accepted_bank}
 use Rattle.record_copies.specs.Copies.{record_read}
 use Rattle.update_admission.specs.Rows.{read_tests}
 use Rattle.update_session.specs.declared.Session.{Session}
 use Rattle.update_session.specs.declared.Session.TheVariants.{Regular, Trial, Fallback}
-use Rattle.update_start_up.specs.declared.Started.{Started}
-use Rattle.update_start_up.specs.declared.Started.TheVariants.{In, Refused}
-
--- what each case of the answer states
-abbrev pub start_reply : Started → Reply Session
-start_reply (In q) = gives q
-start_reply (Refused r) = refusing r
 
 -- the session, by the booted bank and the active one's state (S2)
 unfoldable pub started_session : List ℕ → ℕ → Session

@@ -4,8 +4,7 @@ use native.Mathlib.Omega.{arith}
 use Rattle.record_layout.specs.Layout.{copy_size, copy0, copy1}
 use Rattle.record_layout.specs.Rules.{crc_of}
 use Rattle.record_layout.proofs.Sound.{sound_sized, sound_long}
-use Rattle.record_copies.specs.Copies.{read_from}
-use Rattle.record_copies.proofs.Reading.{is_copy1}
+use Rattle.record_copies.specs.Copies.{record_read}
 use Rattle.record_stores.specs.Stores.{plan}
 use Rattle.record_alterations.specs.Altered.{altered_by, record_with, Alterable}
 use Rattle.record_store_lists.proofs.Listing.{at_front, at_front_none, repair_none, repair_copy0, repair_copy1}
@@ -20,7 +19,7 @@ read32-crc-requires c =
     omega (arith, sound_long e.result.now e.ensures.1)
 
 pub second_agrees-requires : goal.second_agrees-requires
-second_agrees-requires c = (c.requires.0, sym c.requires.1 ∙ c.in-Copy0.is)
+second_agrees-requires c = (c.requires.0, cc)
 
 pub returns-then-second_agrees : goal.returns-then-second_agrees
 returns-then-second_agrees c = at_front_none _ c.args.out.now (repair_none c.args.area.now (sym c.if-second_agrees.true ∙ c.second_agrees.ensures))
@@ -31,28 +30,28 @@ put_copy-requires c =
       rw c.bank_count-banks.ensures (record { sized = sound_sized e.result.now e.ensures.1; within = c.unaltered-x.ensures.within }),
       c.read32-crc.ensures ∙ c.unaltered-x.ensures.crc_is,
     ) in
-    (can.0, can.1, c.requires.0, omega arith, omega arith, c.requires.3)
+    (can.0, can.1, c.requires.0, omega arith, omega arith, c.requires.2)
 
-pub returns-in-Copy0 : goal.returns-in-Copy0
-returns-in-Copy0 c =
-    let same : record_with c.unaltered-x.result c.read_record-r.result.now ≡ read_from c.args.from c.args.area.now = c.unaltered-x.ensures.stays ∙ c.read_record-r.ensures.0 in
+pub returns-else-second_agrees : goal.returns-else-second_agrees
+returns-else-second_agrees c =
+    let same : record_with c.unaltered-x.result c.read_record-r.result.now ≡ record_read c.args.area.now = c.unaltered-x.ensures.stays ∙ c.read_record-r.ensures.0 in
     let a = c.args in
     let A = a.area.now in
-    rw (repair_copy1 A a.from c.requires.1 c.in-Copy0.is (sym c.if-second_agrees.false ∙ c.second_agrees.ensures), ← same)
+    rw (repair_copy1 A (cc) (sym c.if-second_agrees.false ∙ c.second_agrees.ensures), ← same)
     (at_front c.put_copy.result (plan copy_size (copy1 A) _) a.out.now c.put_copy.new.out c.put_copy.ensures.0)
 
-pub put_copy-requires-2 : goal.put_copy-requires-2
-put_copy-requires-2 c =
+pub put_copy-requires-in-Copy1 : goal.put_copy-requires-in-Copy1
+put_copy-requires-in-Copy1 c =
     let can : Alterable c.unaltered-x.result c.read_record-r.result.now c.bank_count-banks.result × (c.read32-crc.result ≡ crc_of (altered_by c.unaltered-x.result c.read_record-r.result.now)) = let e = c.read_record-r in (
       rw c.bank_count-banks.ensures (record { sized = sound_sized e.result.now e.ensures.1; within = c.unaltered-x.ensures.within }),
       c.read32-crc.ensures ∙ c.unaltered-x.ensures.crc_is,
     ) in
-    (can.0, can.1, c.requires.0, omega arith, omega arith, c.requires.3)
+    (can.0, can.1, c.requires.0, omega arith, omega arith, c.requires.2)
 
-pub returns : goal.returns
-returns c =
-    let same : record_with c.unaltered-x.result c.read_record-r.result.now ≡ read_from c.args.from c.args.area.now = c.unaltered-x.ensures.stays ∙ c.read_record-r.ensures.0 in
+pub returns-in-Copy1 : goal.returns-in-Copy1
+returns-in-Copy1 c =
+    let same : record_with c.unaltered-x.result c.read_record-r.result.now ≡ record_read c.args.area.now = c.unaltered-x.ensures.stays ∙ c.read_record-r.ensures.0 in
     let a = c.args in
     let A = a.area.now in
-    rw (repair_copy0 A a.from c.requires.1 (is_copy1 a.from c.in_default.not-Copy0 c.requires.2), ← same)
-    (at_front c.put_copy-2.result (plan 0 (copy0 A) _) a.out.now c.put_copy-2.new.out c.put_copy-2.ensures.0)
+    rw (repair_copy0 A cc, ← same)
+    (at_front c.put_copy-in-Copy1.result (plan 0 (copy0 A) _) a.out.now c.put_copy-in-Copy1.new.out c.put_copy-in-Copy1.ensures.0)

@@ -17,5 +17,5 @@ returns-then-all_accepted_after c = rw (sym c.all_accepted_after.ensures ∙ c.i
 pub states-requires : goal.states-requires
 states-requires c = sound_long c.args.r.now c.requires.0
 
-pub returns : goal.returns
-returns c = rw (sym c.all_accepted_after.ensures ∙ c.if-all_accepted_after.false) c.states.ensures
+pub returns-else-all_accepted_after : goal.returns-else-all_accepted_after
+returns-else-all_accepted_after c = rw (sym c.all_accepted_after.ensures ∙ c.if-all_accepted_after.false) c.states.ensures

@@ -4,5 +4,5 @@ use Rattle.update_alterations.proofs.commit_alteration.Goals as goal
 
 pub returns : goal.returns
 returns c =
-    rw (c.unaltered-x.ensures.is, c.update_bank.ensures.0, c.flag_for.ensures)
+    rw (c.unaltered.ensures.is, c.update_bank.ensures.0, c.flag_for.ensures)
     (commit_makes c.args.r.now c.requires.0 (λ i. (c.type_inv.r i).fits) c.args.i c.args.request c.requires.1)

@@ -16,5 +16,5 @@ all_accepted-requires c = rw (c.bank_count.ensures, c.image_count.ensures) (size
 pub returns-then-all_accepted : goal.returns-then-all_accepted
 returns-then-all_accepted c = rw (sym c.all_accepted.ensures ∙ c.if-all_accepted.true)
 
-pub returns : goal.returns
-returns c = rw (sym c.all_accepted.ensures ∙ c.if-all_accepted.false)
+pub returns-else-all_accepted : goal.returns-else-all_accepted
+returns-else-all_accepted c = rw (sym c.all_accepted.ensures ∙ c.if-all_accepted.false)

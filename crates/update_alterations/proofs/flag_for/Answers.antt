@@ -1,9 +1,12 @@
 -- `flag_for` meets its contract. Assumes nothing.
-use borrow.Author.Tests.{eq-eqb, ne_eqb}
+use mathlib.Core.Path.{◌≡◌, refl, ◌∙◌}
+use mathlib.Core.Bool.{Bool, true, false, cond}
+use mir.Val.{bool_byte}
 use Rattle.update_alterations.proofs.flag_for.Goals as goal
 
-pub returns-then-request-eq0 : goal.returns-then-request-eq0
-returns-then-request-eq0 c = rw (eq-eqb _ _ c.if-request-eq0.true)
+byte_is : (b : Bool) → bool_byte b ≡ cond b 1 0
+byte_is true = refl
+byte_is false = refl
 
 pub returns : goal.returns
-returns c = rw (ne_eqb _ _ c.if-request-eq0.false)
+returns c = c.from.ensures ∙ byte_is _

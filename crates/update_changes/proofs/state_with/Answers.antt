@@ -12,7 +12,7 @@ returns-then-k-b c =
 pub state-requires : goal.state-requires
 state-requires c = (sound_long c.args.r.now c.requires.0, c.requires.2)
 
-pub returns : goal.returns
-returns c =
+pub returns-else-k-b : goal.returns-else-k-b
+returns-else-k-b c =
     let a = c.args in
     c.state.ensures ∙ sym (state_other a.r.now c.requires.0 a.b a.s c.requires.1 a.k c.if-k-b.false)

@@ -1,42 +1,46 @@
 -- `staged` meets its contract. Assumes nothing.
-use borrow.Author.Tests.{eq-eqb, ne_eqb}
-use mathlib.Core.Path.{sym, ◌∙◌}
-use Prim.Native.Nat.{◌≤◌}
-use native.Mathlib.Omega.{arith}
+use Rattle.std.proofs.Common.{◌≡◌, sym, ◌∙◌, arith}
+use borrow.Author.Tests.{eq-eqb, ne_eqb, eqb-true}
 use lib.Count.{leading_le}
-use Rattle.record_layout.specs.Layout.{image_limit}
+use Rattle.fields.proofs.Tests.{no_true}
+use Rattle.record_layout.specs.Layout.{state}
+use Rattle.update_changes.specs.NewRecord.{update_bank_of}
 use Rattle.update_committed_set.specs.Set.{set_bits, staged_fits}
 use Rattle.update_committed_set.proofs.Known.{known}
 use Rattle.update_committed_set.proofs.Fits.{set_decides}
+use Rattle.update_committed_set.proofs.staged.Goals.{then-bank-update_bank, else-bank-update_bank}
 use Rattle.update_committed_set.proofs.staged.Goals as goal
-
-pub returns-then-bank-update_bank : goal.returns-then-bank-update_bank
-unfolding staged_fits
-returns-then-bank-update_bank c = rw (← c.update_bank.ensures.0, ne_eqb _ _ c.if-bank-update_bank.true)
 
 pub state-requires : goal.state-requires
 state-requires c =
     let k = known c.args.r.now c.requires in
-    (k.header, omega (arith, k.update_low, k.banks_high, c.update_bank.ensures.0, c.if-bank-update_bank.false))
+    (k.header, omega (arith, k.update_low, k.banks_high, c.update_bank.ensures.0, c.if-bank-update_bank.true))
 
-pub returns-then-state : goal.returns-then-state
-unfolding staged_fits
-returns-then-state c = rw (← c.update_bank.ensures.0, eq-eqb _ _ c.if-bank-update_bank.false, ← c.state.ensures, ne_eqb _ _ c.if-state.true)
+pub image_count-requires : goal.image_count-requires
+image_count-requires c = (known c.args.r.now c.requires).header
 
-pub image_count-images-requires : goal.image_count-images-requires
-image_count-images-requires c = (known c.args.r.now c.requires).header
-
-pub overflow_cast-images : goal.overflow_cast-images
-overflow_cast-images c =
-    let few : c.image_count-images.result ≤ image_limit = omega (arith, c.image_count-images.ensures, (known c.args.r.now c.requires).images_high) in
-    omega (arith, few)
+pub overflow_cast-result : goal.overflow_cast-result
+overflow_cast-result c = omega (arith, c.image_count.ensures, (known c.args.r.now c.requires).images_high)
 
 pub overflow_add-result : goal.overflow_add-result
 overflow_add-result c =
-    let few : c.image_count-images.result ≤ image_limit = omega (arith, c.image_count-images.ensures, (known c.args.r.now c.requires).images_high) in
-    omega (arith, few, leading_le set_bits c.args.set)
+    omega (arith, c.image_count.ensures, (known c.args.r.now c.requires).images_high, leading_le set_bits c.args.set)
 
-pub returns : goal.returns
-returns c =
-    set_decides c.args.bank c.args.set c.image_count-images.result c.args.r.now (c.if-bank-update_bank.false ∙ c.update_bank.ensures.0)
-    (sym c.state.ensures ∙ c.if-state.false) c.image_count-images.ensures c.ranges.set.fits
+pub returns-then-state : goal.returns-then-state
+returns-then-state c =
+    let right : (c.args.bank ≡ update_bank_of c.args.r.now) × (state c.args.r.now c.args.bank ≡ 255) =
+    elim c.if-bank-update_bank.branch [
+      | then-bank-update_bank w ↦
+          (w.if-bank-update_bank.true ∙ c.update_bank.ensures.0, sym w.state.ensures ∙ eqb-true _ _ (sym w.value-is ∙ c.if-state.true))
+      | else-bank-update_bank w ↦ absurd (no_true (sym (ne_eqb _ _ w.if-bank-update_bank.false) ∙ sym w.value-is ∙ c.if-state.true))
+    ] in
+    set_decides c.args.bank c.args.set c.image_count.result c.args.r.now right.0 right.1 c.image_count.ensures c.ranges.set.fits
+
+pub returns-else-state : goal.returns-else-state
+unfolding staged_fits
+returns-else-state c =
+    elim c.if-bank-update_bank.branch [
+      | then-bank-update_bank w ↦
+          rw (← c.update_bank.ensures.0, eq-eqb _ _ w.if-bank-update_bank.true, ← w.state.ensures, sym w.value-is ∙ c.if-state.false) c.if-state.false
+      | else-bank-update_bank w ↦ rw (← c.update_bank.ensures.0, ne_eqb _ _ w.if-bank-update_bank.false) c.if-state.false
+    ]
