@@ -1,11 +1,10 @@
 -- The whole report: that 4,096 bytes hold a refusal's line, and what is written at each way out. Assumes nothing.
-use mathlib.Core.Path.{◌≡◌, sym, ap, ◌∙◌}
+use mathlib.Core.Path.{◌≡◌, ap}
 use mathlib.Core.Logic.{◌≢◌}
 use mathlib.Core.Bool.{Bool, true, false, cond}
 use mathlib.Core.List.{List, [], ◌++◌}
 use Prim.Native.Nat.{ℕ, ◌≤◌, ◌<◌}
 use Rattle.std.specs.Prelude.{Some, None}
-use Rattle.std.proofs.lemmas.Option.{none-some}
 use native.Mathlib.Nat.{zero-add}
 use native.Mathlib.Omega.{arith}
 use borrow.Author.Tests.{eq-eqb, ne_eqb, le-leb}
@@ -20,7 +19,7 @@ use Rattle.record_copies.specs.declared.Source.{Source}
 use Rattle.record_copies.specs.declared.Source.TheVariants.{Copy0, Copy1}
 use Rattle.refusal_order.specs.Decide.{decide}
 use Rattle.update_admission.specs.Rows.{read_tests}
-use Rattle.update_admission.proofs.Area.{none_sound, one_sound}
+use Rattle.update_admission.proofs.Area.{none_sound, some_sound}
 use Rattle.report_text.specs.Text.{ascii}
 use Rattle.report_text.specs.Wrote.{Room, Wrote}
 use Rattle.report_text.proofs.Digits.{two_digits}
@@ -53,7 +52,7 @@ module _ (a : List ℕ) where
     -- no fault
     pub report_some : (s : Source) → source_of a ≡ Some s → report_of a ≡ record_lines (copy_number (Some s)) (record_read a)
     unfolding report_of report_by decide read_tests
-    report_some s h = rw (eq-eqb (length a) area_size l, one_sound a (λ n. none-some s (sym n ∙ h)), h)
+    report_some s h = rw (eq-eqb (length a) area_size l, some_sound a s h, h)
 
     pub report_none : source_of a ≡ None → report_of a ≡ refused_line (number_of NoSoundCopy)
     unfolding report_of report_by decide read_tests

@@ -38,5 +38,5 @@ loop-i-preserved c =
 
 pub returns : goal.returns
 returns c =
-    let z : c.loop-i.i ≡ image_count c.args.r.now = omega (arith, c.loop-i-test.false, c.loop-i.auto.i, c.image_count-i-end.ensures) in
+    let z : c.loop-i.i ≡ image_count c.args.r.now = omega (arith, c.loop-i-test.false, c.loop-i.auto.i-end, c.image_count-i-end.ensures) in
     rw (← z) c.loop-i.invariant.1

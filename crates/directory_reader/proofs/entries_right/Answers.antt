@@ -1,10 +1,8 @@
 -- `entries_right` meets its contract. Assumes nothing.
 use mathlib.Core.Path.{◌≡◌, refl, sym, ◌∙◌}
-use mathlib.Core.Bool.{true, false}
 use Rattle.std.proofs.Common.{rules}
 use Rattle.record_layout.specs.Every.{below}
 use Rattle.record_layout.proofs.Every.{below_from_all}
-use Rattle.directory_layout.specs.Layout.{images_in}
 use Rattle.directory_reader.specs.Reader.{entry_right, entries_right}
 use Rattle.directory_reader.proofs.entries_right.Goals as goal
 

@@ -1,7 +1,5 @@
 -- `all_images` meets its contract. The loop's invariant: the lines of the images below i are written. Assumes nothing.
-use Prim.Native.Nat.{◌-◌}
 use native.Mathlib.Omega.{arith}
-use Rattle.report_lines.proofs.Known.{few_images}
 use Rattle.record_layout.proofs.Sound.{sound_long}
 use Rattle.report_lines.proofs.Rows.{rows_none, rows_room, rows_more, rows_all}
 use Rattle.report_lines.proofs.all_images.Goals as goal

@@ -1,7 +1,5 @@
 -- `bank_lines` meets its contract. The loop's invariant: the lines of the banks below b are written. Assumes nothing.
-use Prim.Native.Nat.{◌-◌}
 use native.Mathlib.Omega.{arith}
-use Rattle.report_lines.proofs.Known.{few_banks}
 use Rattle.record_layout.proofs.Sound.{sound_long}
 use Rattle.report_lines.proofs.Rows.{rows_none, rows_room, rows_more, rows_all}
 use Rattle.report_lines.proofs.bank_lines.Goals as goal

@@ -1,8 +1,6 @@
 -- `image_lines` meets its contract. The loop's invariant: the image's lines in the banks below b are written. Assumes
 -- nothing.
-use Prim.Native.Nat.{◌-◌}
 use native.Mathlib.Omega.{arith}
-use Rattle.report_lines.proofs.Known.{few_banks}
 use Rattle.record_layout.proofs.Sound.{sound_long}
 use Rattle.report_lines.specs.Lines.{image_lines}
 use Rattle.report_lines.proofs.Rows.{rows_none, rows_room, rows_more, rows_all}
