@@ -1,5 +1,5 @@
 -- What a call knows once its tests found no fault, and what it answers at each way out. Assumes nothing.
-use mathlib.Core.Path.{◌≡◌, refl, sym, ap, ◌∙◌}
+use mathlib.Core.Path.{◌≡◌, refl, sym}
 use mathlib.Core.Bool.{Bool, true, false, not, ◌&&◌}
 use mathlib.Core.List.{List, [], ◌∷◌}
 use Prim.Native.Nat.{ℕ, ◌^◌, ◌<◌}
@@ -11,15 +11,12 @@ use Rattle.refusals.specs.declared.Refusal.{Refusal}
 use Rattle.record_layout.specs.Layout.{area_size, record_of, copy0, copy1, image_count}
 use Rattle.record_layout.specs.Rules.{sound_copy}
 use Rattle.record_copies.specs.Copies.{records_equal, sound_and_equal}
-use Rattle.record_stores.specs.Stores.{store_numbers}
 use Rattle.record_stores.proofs.Laid.{with_list_none}
 use Rattle.record_store_lists.specs.Lists.{Changeable, AtFront}
 use Rattle.record_store_lists.specs.ChangeStores.{copy_stores, change_stores}
 use Rattle.update_committed_set.specs.Set.{staged_fits}
 use Rattle.update_committed_set.proofs.Fits.{set_below}
-use Rattle.refusal_order.specs.declared.Verdict.{Verdict}
-use Rattle.refusal_order.specs.declared.Verdict.TheVariants.{Passed, Refused}
-use Rattle.refusal_order.specs.Decide.{passed, refused, decision_of, decide}
+use Rattle.refusal_order.specs.Decide.{passed, refused, decide}
 use Rattle.refusal_order.proofs.Decide.{refused_before, passed_before, passed_first, no_fault}
 use Rattle.update_session.specs.declared.Session.{Session}
 use Rattle.update_session.specs.declared.Session.TheVariants.{Staging}
@@ -66,9 +63,9 @@ common_below q bank set a n t e =
 
 -- the ways out of a call
 module _ (k : Call) (q : Session) (a s : List ℕ) where
-  pub refused_first : (v : Verdict) (why : Refusal) → v ≡ Refused why → decision_of v ≡ decide (common_tests q a (length s)) → (refused_with q why, s) ≡ answered k q a s
+  pub refused_first : (why : Refusal) → refused why ≡ decide (common_tests q a (length s)) → (refused_with q why, s) ≡ answered k q a s
   unfolding answered following tests
-  refused_first v why t e = rw (← refused_before (common_tests q a (length s)) (own_tests k q (held a)) _ _ (ap decision_of (sym t) ∙ e))
+  refused_first why e = rw (← refused_before (common_tests q a (length s)) (own_tests k q (held a)) _ _ e)
 
   pub refused_own : (why : Refusal) → passed ≡ decide (common_tests q a (length s)) → refused why ≡ decide (own_tests k q (held a)) → (refused_with q why, s) ≡ answered k q a s
   unfolding answered following tests

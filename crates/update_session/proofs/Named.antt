@@ -1,44 +1,47 @@
--- Which sessions a call names. A match tells of a session the numbers of the cases that it may be. Assumes nothing.
-use mathlib.Core.Path.{◌≡◌, refl, sym}
-use mathlib.Core.Bool.{Bool, true, false, not, ◌&&◌}
-use mathlib.Core.Logic.{inl, inr}
-use mathlib.Core.List.{List, ◌∷◌, []}
+-- Whether a session is one that a call is for, by the cases that a match took or left out. Assumes nothing.
+use mathlib.Core.Path.{◌≡◌, refl}
+use mathlib.Core.Bool.{true, false}
+use mathlib.Core.Logic.{◌⊎◌, inl, inr}
+use mathlib.Core.List.{◌∷◌, []}
 use Prim.Native.Nat.{ℕ}
-use denote.Enum.Declared.{tag_of}
-use types.Run.{OneOf}
-use Rattle.fields.proofs.Tests.{both}
 use Rattle.update_session.specs.declared.Session.{Session}
 use Rattle.update_session.specs.declared.Session.TheVariants.{Regular, Staging, Trial, Fallback, Restart}
-use Rattle.update_session.specs.Sessions.{kind_of, among}
-use Rattle.update_session.specs.contracts.Session.{the_type}
+use Rattle.update_changes.specs.Changed.{begin, select_previous}
+use Rattle.update_session.specs.Sessions.{staging, trial, kind_of, among, named_for}
 
-kind_is : (q : Session) → tag_of the_type q ≡ kind_of q
-kind_is Regular = refl
-kind_is (Staging bank set) = refl
-kind_is Trial = refl
-kind_is Fallback = refl
-kind_is Restart = refl
+pub not_staging : (q : Session) → ((bank set : ℕ) → q ≡ Staging bank set → ⊥) → among (kind_of q) (staging ∷ []) ≡ false
+not_staging Regular h = refl
+not_staging (Staging bank set) h = absurd (h bank set refl)
+not_staging Trial h = refl
+not_staging Fallback h = refl
+not_staging Restart h = refl
 
--- b of each of the numbers: that it is in the list, or that it is not
-abbrev agrees : Bool → Bool → Bool
-agrees true x = x
-agrees false x = not x
+pub not_trial : (q : Session) → (q ≡ Trial → ⊥) → among (kind_of q) (trial ∷ []) ≡ false
+not_trial Regular h = refl
+not_trial (Staging bank set) h = refl
+not_trial Trial h = absurd (h refl)
+not_trial Fallback h = refl
+not_trial Restart h = refl
 
-agreed : (b x : Bool) → agrees b x ≡ true → x ≡ b
-agreed true x e = e
-agreed false true e = sym e
-agreed false false e = refl
+pub for_begin : (q : Session) → (q ≡ Regular) ⊎ ((bank : ℕ) × (set : ℕ) × q ≡ Staging bank set) → among (kind_of q) (named_for begin) ≡ true
+for_begin q (inl e) = rw e
+for_begin q (inr h) = rw h.2
 
-abbrev pub each : Bool → List ℕ → List ℕ → Bool
-each b [] ns = true
-each b (k ∷ ks) ns = agrees b (among k ns) && each b ks ns
+pub not_for_begin : (q : Session) → (q ≡ Regular → ⊥) → ((bank set : ℕ) → q ≡ Staging bank set → ⊥)
+    → among (kind_of q) (named_for begin) ≡ false
+not_for_begin Regular g h = absurd (g refl)
+not_for_begin (Staging bank set) g h = absurd (h bank set refl)
+not_for_begin Trial g h = refl
+not_for_begin Fallback g h = refl
+not_for_begin Restart g h = refl
 
-one_of : (b : Bool) (ks ns : List ℕ) (x : ℕ) → OneOf ks x → each b ks ns ≡ true → among x ns ≡ b
-one_of b [] ns x h e = absurd h
-one_of b (k ∷ []) ns x h e = rw h (agreed b (among k ns) (both _ _ e).0)
-one_of b (k ∷ k' ∷ ks) ns x (inl h) e = rw h (agreed b (among k ns) (both _ _ e).0)
-one_of b (k ∷ k' ∷ ks) ns x (inr h) e = one_of b (k' ∷ ks) ns x h (both (agrees b (among k ns)) _ e).1
+pub for_select : (q : Session) → (q ≡ Trial) ⊎ (q ≡ Fallback) → among (kind_of q) (named_for select_previous) ≡ true
+for_select q (inl e) = rw e
+for_select q (inr e) = rw e
 
--- whether a session that a match told to be one of those is among the named: `refl` shows the last premise
-pub named_by : (b : Bool) (q : Session) (ks ns : List ℕ) → OneOf ks (tag_of the_type q) → each b ks ns ≡ true → among (kind_of q) ns ≡ b
-named_by b q ks ns h e = one_of b ks ns (kind_of q) (rw (kind_is q) at h) e
+pub not_for_select : (q : Session) → (q ≡ Trial → ⊥) → (q ≡ Fallback → ⊥) → among (kind_of q) (named_for select_previous) ≡ false
+not_for_select Regular g h = refl
+not_for_select (Staging bank set) g h = refl
+not_for_select Trial g h = absurd (g refl)
+not_for_select Fallback g h = absurd (h refl)
+not_for_select Restart g h = refl

@@ -7,6 +7,6 @@ pub returns-then-all_accepted_after : goal.returns-then-all_accepted_after
 unfolding after_accept
 returns-then-all_accepted_after c = rw (sym c.all_accepted_after.ensures ∙ c.if-all_accepted_after.true)
 
-pub returns : goal.returns
+pub returns-else-all_accepted_after : goal.returns-else-all_accepted_after
 unfolding after_accept
-returns c = rw (sym c.all_accepted_after.ensures ∙ c.if-all_accepted_after.false)
+returns-else-all_accepted_after c = rw (sym c.all_accepted_after.ensures ∙ c.if-all_accepted_after.false)

@@ -1,5 +1,8 @@
--- `update_start_up` meets its contract. Assumes nothing.
-use mathlib.Core.Path.{sym, ◌∙◌}
+-- `start_up` meets its contract. Assumes nothing.
+use Rattle.std.proofs.Common.{rules, arith, ◌≡◌, sym, ◌∙◌}
+use Rattle.std.specs.Prelude.{Some, None, Err}
+use Rattle.refusals.specs.declared.Refusal.TheVariants.{NoSoundCopy}
+use Rattle.record_copies.specs.Copies.{source_of}
 use borrow.Author.Tests.{eq-eqb, ne_eqb}
 use Rattle.refusal_order.specs.Decide.{decide, reply}
 use Rattle.update_admission.specs.Rows.{read_tests}
@@ -12,19 +15,16 @@ pub returns-then-area-ne-AREA : goal.returns-then-area-ne-AREA
 unfolding start_up_of start_up_tests read_tests decide reply
 returns-then-area-ne-AREA c = rw (ne_eqb _ _ c.if-area-ne-AREA.true)
 
-pub returns-in-Neither : goal.returns-in-Neither
+pub returns-in_err-from : goal.returns-in_err-from
 unfolding start_up_of start_up_tests read_tests decide reply
-returns-in-Neither c =
+returns-in_err-from c =
     let a = c.args.area.now in
-    rw (eq-eqb _ _ c.if-area-ne-AREA.false, none_sound a (sym c.read_source-from.ensures ∙ c.in-Neither.is))
-
-pub read_record-requires : goal.read_record-requires
-read_record-requires c = (c.if-area-ne-AREA.false, c.read_source-from.ensures, c.in_default.not-Neither)
+    let why : c.from_residual.result ≡ Err NoSoundCopy = search rules in
+    let none : source_of a ≡ None = grind arith in
+    rw (why, eq-eqb _ _ c.if-area-ne-AREA.false, none_sound a none)
 
 pub returns : goal.returns
 returns c =
     let a = c.args.area.now in
-    let n = c.in_default.not-Neither in
-    c.session_from.ensures
-    ∙ rw (c.read_record.ensures.0, c.read_source-from.ensures)
-    (sym (read_by a c.args.booted c.if-area-ne-AREA.false (rw (← c.read_source-from.ensures) n)))
+    let some : source_of a ≡ Some c.in_ok-from.from = search rules in
+    c.session_from.ensures ∙ rw c.read_record.ensures.0 (sym (read_by a c.args.booted c.in_ok-from.from c.if-area-ne-AREA.false some))

@@ -1,56 +1,48 @@
 -- `end` meets its contract. Assumes nothing.
-use borrow.Enum.Refused.{opened}
-use mathlib.Core.Path.{◌≡◌, refl, sym, ap, ◌∙◌}
-use mathlib.Core.Bool.{true, false}
-use mathlib.Core.List.{◌∷◌, []}
-use lib.ListN.{length}
-use Rattle.refusal_order.specs.Decide.{passed, decision_of, decide}
-use borrow.Author.Tests.{eq-eqb, ne_eqb}
+use Rattle.std.proofs.Common.{rules, ◌≡◌, refl, length}
+use Rattle.std.specs.Prelude.{Err}
 use Rattle.refusals.specs.declared.Refusal.TheVariants.{SessionState, ImagesMissing}
+use Rattle.refusal_order.specs.Decide.{decide}
 use Rattle.update_changes.specs.Changed.{end, change_of, new_record}
-use Rattle.update_session.specs.Sessions.{named_for}
-use Rattle.update_session.specs.Calls.{common_tests, own_tests, next_session}
-use Rattle.update_session.proofs.Named.{named_by}
+use Rattle.update_session.specs.Calls.{own_tests, next_session}
+use Rattle.update_session.proofs.Named.{not_staging}
 use Rattle.update_session.proofs.Answered.{common_held, common_changeable, common_below, refused_first, refused_own, accepted_own}
+use borrow.Author.Tests.{eq-eqb, ne_eqb}
 use Rattle.update_session.proofs.Session.end.Goals as goal
 
-pub returns-in-Refused : goal.returns-in-Refused
-returns-in-Refused c = rw c.refused.ensures (refused_first end c.args.self c.args.area.now c.args.out.now _ _ c.in-Refused.is c.admit-verdict.ensures)
+pub returns-in_err-admit : goal.returns-in_err-admit
+returns-in_err-admit c =
+    let why : c.from_residual.result ≡ Err c.in_err-admit.field-0.0 = search rules in
+    rw why (refused_first end c.args.self.now c.args.area.now c.args.out.now _ c.in_err-admit.ensures)
 
-pub returns-in_default-self : goal.returns-in_default-self
+pub returns-in_default : goal.returns-in_default
 unfolding decide own_tests
-returns-in_default-self c =
-    let admitted : passed ≡ decide (common_tests c.args.self c.args.area.now (length c.args.out.now)) = ap decision_of (sym c.in_default.is) ∙ c.admit-verdict.ensures in
-    rw c.refused-in_default-self.ensures
-    (refused_own end c.args.self c.args.area.now c.args.out.now SessionState admitted
-    (rw (named_by false c.args.self (0 ∷ 2 ∷ 3 ∷ 4 ∷ []) (named_for end) (opened c.in_default-self.in_default-self-own.keys2) refl)))
+returns-in_default c =
+    refused_own end c.args.self.now c.args.area.now c.args.out.now SessionState c.in_ok-admit.ensures
+    (rw (not_staging c.args.self.now c.in_default.not-Staging))
 
 pub held_record-requires : goal.held_record-requires
-held_record-requires c =
-    let admitted : passed ≡ decide (common_tests c.args.self c.args.area.now (length c.args.out.now)) = ap decision_of (sym c.in_default.is) ∙ c.admit-verdict.ensures in
-    common_held c.args.self c.args.area.now (length c.args.out.now) admitted
+held_record-requires c = common_held c.args.self.now c.args.area.now (length c.args.out.now) c.in_ok-admit.ensures
 
 pub missing_images-count-requires : goal.missing_images-count-requires
 missing_images-count-requires c =
-    let admitted : passed ≡ decide (common_tests c.args.self c.args.area.now (length c.args.out.now)) = ap decision_of (sym c.in_default.is) ∙ c.admit-verdict.ensures in
-    (c.held_record.ensures.1, rw c.held_record.ensures.0 (common_below c.args.self c.in-Staging.bank c.in-Staging.set c.args.area.now (length c.args.out.now) c.in-Staging.is admitted))
+    let s = c.in-Staging in
+    let a = c.args in (
+      c.held_record.ensures.1,
+      rw c.held_record.ensures.0 (common_below a.self.now s.bank s.set a.area.now (length a.out.now) s.is c.in_ok-admit.ensures),
+    )
 
 pub returns-then-count-ne0 : goal.returns-then-count-ne0
 unfolding decide own_tests
 returns-then-count-ne0 c =
-    let admitted : passed ≡ decide (common_tests c.args.self c.args.area.now (length c.args.out.now)) = ap decision_of (sym c.in_default.is) ∙ c.admit-verdict.ensures in
-    rw (c.refused-then-count-ne0.ensures, ← c.in-Staging.is)
-    (refused_own end c.args.self c.args.area.now c.args.out.now (ImagesMissing c.missing_images-count.result) admitted
-    (rw (c.in-Staging.is, ← c.held_record.ensures.0, ← c.missing_images-count.ensures, ne_eqb _ _ c.if-count-ne0.true)))
+    refused_own end c.args.self.now c.args.area.now c.args.out.now (ImagesMissing c.missing_images-count.result) c.in_ok-admit.ensures
+    (rw (c.in-Staging.is, ← c.held_record.ensures.0, ← c.missing_images-count.ensures, ne_eqb _ _ c.if-count-ne0.true))
 
-pub changed-requires : goal.changed-requires
-changed-requires c =
-    let admitted : passed ≡ decide (common_tests c.args.self c.args.area.now (length c.args.out.now)) = ap decision_of (sym c.in_default.is) ∙ c.admit-verdict.ensures in
-    (common_changeable c.args.self c.args.area.now c.args.out.now admitted, tt)
+pub change-requires : goal.change-requires
+change-requires c = (common_changeable c.args.self.now c.args.area.now c.args.out.now c.in_ok-admit.ensures, tt)
 
 pub returns : goal.returns
 unfolding decide own_tests next_session new_record change_of
 returns c =
-    let admitted : passed ≡ decide (common_tests c.args.self c.args.area.now (length c.args.out.now)) = ap decision_of (sym c.in_default.is) ∙ c.admit-verdict.ensures in
-    accepted_own end c.args.self c.args.area.now c.args.out.now _ _ admitted
-    (rw (c.in-Staging.is, ← c.held_record.ensures.0, ← c.missing_images-count.ensures, eq-eqb _ _ c.if-count-ne0.false)) refl c.changed.ensures
+    accepted_own end c.args.self.now c.args.area.now c.args.out.now _ _ c.in_ok-admit.ensures
+    (rw (c.in-Staging.is, ← c.held_record.ensures.0, ← c.missing_images-count.ensures, eq-eqb _ _ c.if-count-ne0.false)) refl c.change.ensures

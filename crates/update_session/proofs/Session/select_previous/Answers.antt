@@ -1,50 +1,47 @@
 -- `select_previous` meets its contract. Assumes nothing.
-use borrow.Enum.Refused.{opened}
-use mathlib.Core.Path.{◌≡◌, refl, sym, ap, ◌∙◌}
-use mathlib.Core.Bool.{true, false}
-use mathlib.Core.List.{◌∷◌, []}
-use lib.ListN.{length}
-use Rattle.refusal_order.specs.Decide.{passed, decision_of, decide}
+use Rattle.std.proofs.Common.{rules, ◌≡◌, refl, sym, ◌∙◌, length}
+use Rattle.std.specs.Prelude.{Err}
 use Rattle.refusals.specs.declared.Refusal.TheVariants.{SessionState}
+use Rattle.refusal_order.specs.Decide.{decide}
 use Rattle.update_changes.specs.Changed.{select_previous, change_of, new_record}
-use Rattle.update_session.specs.Sessions.{named_for}
-use Rattle.update_session.specs.Calls.{common_tests, own_tests, next_session}
-use Rattle.update_session.proofs.Named.{named_by}
+use Rattle.update_session.specs.Calls.{own_tests, next_session}
+use Rattle.update_session.proofs.Named.{for_select, not_for_select}
 use Rattle.update_session.proofs.Answered.{common_held, common_changeable, refused_first, refused_own, accepted_own}
 use Rattle.update_session.proofs.Session.select_previous.Goals as goal
 
-pub returns-in-Refused : goal.returns-in-Refused
-returns-in-Refused c = rw c.refused.ensures (refused_first select_previous c.args.self c.args.area.now c.args.out.now _ _ c.in-Refused.is c.admit-verdict.ensures)
+pub returns-in_err-admit : goal.returns-in_err-admit
+returns-in_err-admit c =
+    let why : c.from_residual.result ≡ Err c.in_err-admit.field-0.0 = search rules in
+    rw why (refused_first select_previous c.args.self.now c.args.area.now c.args.out.now _ c.in_err-admit.ensures)
+
+pub returns-in_default : goal.returns-in_default
+unfolding decide own_tests
+returns-in_default c =
+    refused_own select_previous c.args.self.now c.args.area.now c.args.out.now SessionState c.in_ok-admit.ensures
+    (rw (not_for_select c.args.self.now c.in_default.not-Trial c.in_default.not-Fallback))
 
 pub held_record-requires : goal.held_record-requires
-held_record-requires c =
-    let admitted : passed ≡ decide (common_tests c.args.self c.args.area.now (length c.args.out.now)) = ap decision_of (sym c.in_default.is) ∙ c.admit-verdict.ensures in
-    common_held c.args.self c.args.area.now (length c.args.out.now) admitted
+held_record-requires c = common_held c.args.self.now c.args.area.now (length c.args.out.now) c.in_ok-admit.ensures
 
 pub returns-then-not-previous_accepted : goal.returns-then-not-previous_accepted
 unfolding decide own_tests
 returns-then-not-previous_accepted c =
-    let admitted : passed ≡ decide (common_tests c.args.self c.args.area.now (length c.args.out.now)) = ap decision_of (sym c.in_default.is) ∙ c.admit-verdict.ensures in
-    rw c.refused-then-not-previous_accepted.ensures
-    (refused_own select_previous c.args.self c.args.area.now c.args.out.now SessionState admitted
-    (rw (named_by true c.args.self (2 ∷ 3 ∷ []) (named_for select_previous) c.in-Trial.in-Trial-own.keys1 refl, ← c.held_record.ensures.0, sym c.previous_accepted.ensures ∙ c.if-not-previous_accepted.true)))
+    refused_own select_previous c.args.self.now c.args.area.now c.args.out.now SessionState c.in_ok-admit.ensures
+    (rw (
+      for_select c.args.self.now c.in-Trial.is,
+      ← c.held_record.ensures.0,
+      sym c.previous_accepted.ensures ∙ c.if-not-previous_accepted.true,
+    ))
 
-pub changed-requires : goal.changed-requires
-changed-requires c =
-    let admitted : passed ≡ decide (common_tests c.args.self c.args.area.now (length c.args.out.now)) = ap decision_of (sym c.in_default.is) ∙ c.admit-verdict.ensures in
-    (common_changeable c.args.self c.args.area.now c.args.out.now admitted, tt)
+pub change-requires : goal.change-requires
+change-requires c = (common_changeable c.args.self.now c.args.area.now c.args.out.now c.in_ok-admit.ensures, tt)
 
-pub returns-in-Trial : goal.returns-in-Trial
+pub returns : goal.returns
 unfolding decide own_tests next_session new_record change_of
-returns-in-Trial c =
-    let admitted : passed ≡ decide (common_tests c.args.self c.args.area.now (length c.args.out.now)) = ap decision_of (sym c.in_default.is) ∙ c.admit-verdict.ensures in
-    accepted_own select_previous c.args.self c.args.area.now c.args.out.now _ _ admitted
-    (rw (named_by true c.args.self (2 ∷ 3 ∷ []) (named_for select_previous) c.in-Trial.in-Trial-own.keys1 refl, ← c.held_record.ensures.0, sym c.previous_accepted.ensures ∙ c.if-not-previous_accepted.false)) refl c.changed.ensures
-
-pub returns-in_default-self : goal.returns-in_default-self
-unfolding decide own_tests
-returns-in_default-self c =
-    let admitted : passed ≡ decide (common_tests c.args.self c.args.area.now (length c.args.out.now)) = ap decision_of (sym c.in_default.is) ∙ c.admit-verdict.ensures in
-    rw c.refused-in_default-self.ensures
-    (refused_own select_previous c.args.self c.args.area.now c.args.out.now SessionState admitted
-    (rw (named_by false c.args.self (0 ∷ 1 ∷ 4 ∷ []) (named_for select_previous) (opened c.in_default-self.in_default-self-own.keys2) refl)))
+returns c =
+    accepted_own select_previous c.args.self.now c.args.area.now c.args.out.now _ _ c.in_ok-admit.ensures
+    (rw (
+      for_select c.args.self.now c.in-Trial.is,
+      ← c.held_record.ensures.0,
+      sym c.previous_accepted.ensures ∙ c.if-not-previous_accepted.false,
+    )) refl c.change.ensures
