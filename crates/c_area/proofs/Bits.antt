@@ -19,7 +19,7 @@ sum_bits false true false = refl
 sum_bits false false true = refl
 sum_bits false false false = refl
 
-pub bits : (a : List ℕ) (x y e : Bool) (p q r : ℕ) → x ≡ sound_copy (copy0 a) → y ≡ sound_copy (copy1 a) → e ≡ ((x && y) && records_equal a)
-    → p ≡ from_bool x → q ≡ from_bool y → r ≡ from_bool e → p + 2 * q + 4 * r ≡ sound_copies a
+pub bits : (a : List ℕ) (x y e : Bool) (p q r : ℕ) → x ≡ sound_copy (copy0 a) → y ≡ sound_copy (copy1 a)
+    → e ≡ ((x && y) && records_equal a) → p ≡ from_bool x → q ≡ from_bool y → r ≡ from_bool e → p + 2 * q + 4 * r ≡ sound_copies a
 unfolding sound_copies sound_and_equal
 bits a x y e p q r h0 h1 h2 h3 h4 h5 = rw (h3, h4, h5, ← h0, ← h1, ← h2) (sum_bits x y e)
