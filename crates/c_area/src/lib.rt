@@ -3,30 +3,32 @@
 // line (T6).
 #![tactic(auto)]
 
-ghost use Rattle.std.specs.Prelude.{◌≡◌, length};
+ghost use Rattle.std.specs.Prelude.{◌≡◌, ◌&&◌, length};
 ghost use Rattle.record_layout.specs.Layout.{area_size};
+ghost use Rattle.record_copies.specs.Copies.{records_equal};
 ghost use Rattle.report.specs.Report.{report_in};
 ghost use Rattle.c_area.specs.Soundness.{sound_copies, exported_soundness};
 
+use record_copies::{records_equal, sound_at};
 use record_layout::{AREA, COPY};
 
+// Whether the copies are sound and equal (R21), of which it is known whether each is sound.
+fn both_equal(area: &[u8], first: bool, second: bool) -> bool
+    requires { length area.now ≡ area_size }
+    ensures { result ≡ ((first && second) && records_equal area.now) }
+{
+    first && second && records_equal(area)
+}
+
 // Which copies are sound (R5), and whether they are equal (R21), as bits (X7).
+#[tactic(auto, using(crate::proofs::Bits::bits))]
 fn sound_copies(area: &[u8]) -> u32
     requires { length area.now ≡ area_size }
     ensures { result ≡ sound_copies area.now }
 {
-    let second = record_soundness::sound_copy(&area[COPY..AREA]);
-    if !record_soundness::sound_copy(&area[0..COPY]) {
-        return if second { 2 } else { 0 };
-    }
-    if !second {
-        return 1;
-    }
-    if record_copies::records_equal(area) {
-        7
-    } else {
-        3
-    }
+    let first = sound_at(area, 0);
+    let second = sound_at(area, COPY);
+    u32::from(first) + 2 * u32::from(second) + 4 * u32::from(both_equal(area, first, second))
 }
 
 // Sets the bits of `sound_copies`; N20 (X7).

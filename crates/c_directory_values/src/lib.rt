@@ -15,7 +15,6 @@ ghost use Rattle.c_reply.specs.Replied.{replied};
 
 use directory_reader::refusal;
 use directory_values::{guid_span, numbers_or_zeros};
-use refusal_order::Verdict;
 
 // Where the type GUID of entry k lies: start and length (X6). The array of two has the layout of struct
 // meanderpeg_part.
@@ -24,14 +23,13 @@ pub extern "C" fn meanderpeg_directory_type_guid(d: &[u8], k: usize, part: &mut 
     ensures { (result, part.new) ≡ replied (reply (decide (reader_tests d.now))
         (start_and_length d.now (shown_guid d.now k))) part.old }
 {
-    let verdict = refusal(d);
-    match verdict {
-        Verdict::Passed => {
+    match refusal(d) {
+        Ok(()) => {
             let span = guid_span(d, k);
             *part = [span.start, span.end - span.start];
             0
         }
-        Verdict::Refused(why) => why.number(),
+        Err(why) => why.number(),
     }
 }
 
@@ -41,13 +39,12 @@ pub extern "C" fn meanderpeg_directory_numbers(d: &[u8], k: usize, numbers: &mut
     ensures { (result, numbers.new) ≡ replied (reply (decide (reader_tests d.now))
         (five (shown_numbers d.now k))) numbers.old }
 {
-    let verdict = refusal(d);
-    match verdict {
-        Verdict::Passed => {
+    match refusal(d) {
+        Ok(()) => {
             let n = numbers_or_zeros(d, k);
             *numbers = [n.permissions, n.maximum, n.lowest, n.version, n.accepted];
             0
         }
-        Verdict::Refused(why) => why.number(),
+        Err(why) => why.number(),
     }
 }

@@ -6,8 +6,6 @@ ghost use Rattle.std.specs.Prelude.{◌≡◌};
 ghost use Rattle.directory_writer.specs.Writer.{written};
 ghost use Rattle.c_reply.specs.Replied.{replied};
 
-use directory_writer::Written;
-
 // Returns 0 and sets how many bytes were written at the front of `directory`; or returns the refusal, N20, N21, N28 or
 // N40 to N42, and alters nothing (X5, I8). A reader wants exactly so many bytes.
 #[unsafe(no_mangle)]
@@ -22,12 +20,11 @@ pub extern "C" fn meanderpeg_directory_write(
         (written area.now booted words.now directory.old).0 length.old)
         × (directory.new ≡ (written area.now booted words.now directory.old).1) }
 {
-    let answer = directory_writer::write_directory(area, booted, words, directory);
-    match answer {
-        Written::Length(n) => {
+    match directory_writer::write_directory(area, booted, words, directory) {
+        Ok(n) => {
             *length = n;
             0
         }
-        Written::Refused(why) => why.number(),
+        Err(why) => why.number(),
     }
 }

@@ -36,10 +36,7 @@ pub fn put_entries(r: &[u8], booted: usize, words: &[u32], out: &mut [u8])
     ensures { out.new ≡ put out.old directory_header_size
         (entries_bytes (up_to (image_count r.now) (installed_entry r.now booted words.now))) }
 {
-    let images = image_count(r);
-    let mut i = 0;
-    while i < images {
+    for i in 0..image_count(r) {
         put_entry(r, i, booted, words, out);
-        i += 1;
     }
 }

@@ -3,6 +3,7 @@ use mathlib.Core.Path.{◌≡◌, sym}
 use mathlib.Core.Bool.{Bool, true, ◌&&◌}
 use mathlib.Core.List.{List}
 use Prim.Native.Nat.{ℕ, ◌≤◌}
+use native.Mathlib.Omega.{arith}
 use borrow.Author.Tests.{leb-true, eqb-true, not-false}
 use lib.Dec.{eqb, leb}
 use lib.ListN.{length}
@@ -42,3 +43,7 @@ taken d e =
       few = (header_images d (not-false (header_right d) f.1.0)).1;
       long = eqb-true (length d) (directory_size (images_in d)) (not-false _ f.1.1.0);
     }
+
+-- what ends in its header ends in it
+pub header_in : (d : List ℕ) (n : ℕ) → decide (reader_tests d) ≡ passed → n ≤ directory_header_size → n ≤ length d
+header_in d n e h = omega (arith, h, (taken d e).long)

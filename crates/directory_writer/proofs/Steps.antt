@@ -1,9 +1,9 @@
 -- What the writer answers of a record, by what each of its steps found. Assumes nothing.
 use mathlib.Core.Path.{◌≡◌, refl}
-use mathlib.Core.Logic.{◌≢◌}
 use mathlib.Core.Bool.{Bool, true, false}
 use mathlib.Core.List.{List}
 use Prim.Native.Nat.{ℕ, ◌*◌, ◌≤◌, ◌<◌}
+use Rattle.std.specs.Prelude.{Some}
 use native.Mathlib.Omega.{arith}
 use borrow.Author.Tests.{leb-false, lt-leb, ltb-false, eq-eqb}
 use lib.Dec.{leb}
@@ -14,9 +14,9 @@ use Rattle.refusal_order.specs.Decide.{passed, decide, refused, Reply, gives, re
 use Rattle.refusal_order.proofs.Decide.{no_fault}
 use Rattle.record_layout.specs.Layout.{area_size, bank_count, image_count}
 use Rattle.record_copies.specs.Copies.{source_of, record_read}
-use Rattle.record_copies.specs.declared.Source.TheVariants.{Neither}
+use Rattle.record_copies.specs.declared.Source.{Source}
 use Rattle.update_admission.specs.Rows.{read_tests}
-use Rattle.update_admission.proofs.Area.{one_sound}
+use Rattle.update_admission.proofs.Area.{some_sound}
 use Rattle.update_session.specs.declared.Session.{Session}
 use Rattle.update_start_up.specs.StartUp.{started_session, started_from, start_up_tests}
 use Rattle.directory_layout.specs.Layout.{directory_bytes, directory_size}
@@ -73,7 +73,7 @@ enough r words room e =
     (ltb-false (length words) (image_count r * words_an_image) f.0, ltb-false room (directory_size (image_count r)) f.1.1.0)
 
 -- where a record is read, the writer answers by it
-pub by_record : (a : List ℕ) (booted : ℕ) (words out : List ℕ) → length a ≡ area_size → source_of a ≢ Neither
+pub by_record : (a : List ℕ) (booted : ℕ) (words out : List ℕ) (x : Source) → length a ≡ area_size → source_of a ≡ Some x
     → written a booted words out ≡ written_from (record_read a) booted words out
 unfolding written written_from writer_tests start_up_tests read_tests decide
-by_record a booted words out l n = rw (eq-eqb (length a) area_size l, one_sound a n)
+by_record a booted words out x l e = rw (eq-eqb (length a) area_size l, some_sound a x e)

@@ -3,7 +3,7 @@
 use Rattle.std.specs.Prelude.{ℕ, ◌*◌, not, List, [], ◌∷◌, ◌++◌, ltb, length}
 use Rattle.fields.specs.Number.{put}
 use Rattle.refusals.specs.declared.Refusal.TheVariants.{DirectoryWords, DirectoryPermissions, DirectoryRoom}
-use Rattle.refusal_order.specs.Decide.{Decision, passed, refusal, Test, decide, Reply, gives, refuses, refusing}
+use Rattle.refusal_order.specs.Decide.{Decision, passed, refusal, Test, decide, Reply, gives, refuses}
 use Rattle.record_layout.specs.Every.{below}
 use Rattle.record_layout.specs.Layout.{image_count}
 use Rattle.record_copies.specs.Copies.{record_read}
@@ -12,8 +12,6 @@ use Rattle.update_session.specs.declared.Session.TheVariants.{Regular, Staging, 
 use Rattle.update_start_up.specs.StartUp.{started_session, start_up_tests}
 use Rattle.directory_layout.specs.Layout.{Directory, directory_bytes, directory_size, up_to, permissions_right}
 use Rattle.directory_entries.specs.Installed.{words_an_image, word_for, installed_entry}
-use Rattle.directory_writer.specs.declared.Written.{Written}
-use Rattle.directory_writer.specs.declared.Written.TheVariants.{Length, Refused}
 
 -- I5: correct_boot is 0 exactly where start-up answers Fallback; it never answers Staging or Restart
 abbrev pub correct_boot_of : Session → ℕ
@@ -50,11 +48,6 @@ directory_tests r words room = words_test r words ∷ permissions_test r words �
 -- behind those of start-up: 20, 21, 28
 unfoldable pub writer_tests : (a : List ℕ) (booted : ℕ) (words : List ℕ) (room : ℕ) → List Test
 writer_tests a booted words room = start_up_tests a booted ++ directory_tests (record_read a) words room
-
--- what each case of the answer states
-abbrev pub written_reply : Written → Reply ℕ
-written_reply (Length n) = gives n
-written_reply (Refused r) = refusing r
 
 -- I8: how many bytes were written, and the output slice afterwards: the directory at its front, every byte past it as it
 -- was; with a refusal every byte

@@ -1,9 +1,9 @@
 -- The report of an area (T1 to T7), as bytes. a is the bytes of the area. The report is no call: it needs one sound
 -- copy, so 22 is not for it, and a refused area has a report too. Assumes nothing.
-use Rattle.std.specs.Prelude.{ℕ, cond, List, [], ◌∷◌, ◌++◌, leb, length, drop}
+use Rattle.std.specs.Prelude.{ℕ, cond, List, [], ◌∷◌, ◌++◌, leb, length, drop, Option, Some, None}
 use Rattle.record_copies.specs.Copies.{source_of, record_read}
 use Rattle.record_copies.specs.declared.Source.{Source}
-use Rattle.record_copies.specs.declared.Source.TheVariants.{Copy0, Copy1, Neither}
+use Rattle.record_copies.specs.declared.Source.TheVariants.{Copy0, Copy1}
 use Rattle.refusal_order.specs.Decide.{Decision, passed, refusal, decide}
 use Rattle.update_admission.specs.Rows.{read_tests}
 use Rattle.report_text.specs.Text.{ascii, line}
@@ -14,10 +14,10 @@ unfoldable pub refused_line : (number : ℕ) → List ℕ
 refused_line number = line (ascii "refused") (number ∷ [])
 
 -- the number of the copy that is read; where there is none, the report is a refusal's
-abbrev pub copy_number : Source → ℕ
-copy_number Copy0 = 0
-copy_number Copy1 = 1
-copy_number Neither = 0
+abbrev pub copy_number : Option Source → ℕ
+copy_number (Some Copy0) = 0
+copy_number (Some Copy1) = 1
+copy_number None = 0
 
 -- the lines of the record read, or that of the refusal
 unfoldable pub report_by : Decision → List ℕ → List ℕ

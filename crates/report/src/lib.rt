@@ -1,26 +1,36 @@
 // The report (T1 to T7): an area's record as lines of text, in a lent slice.
 #![tactic(auto)]
 
-ghost use Rattle.std.specs.Prelude.{◌≡◌};
+ghost use Rattle.std.specs.Prelude.{◌≡◌, Some};
 ghost use Rattle.refusals.specs.Number.{number_of};
 ghost use Rattle.report_text.specs.Wrote.{Room, Wrote};
-ghost use Rattle.report.specs.Report.{refused_line, report_in};
+ghost use Rattle.report.specs.Report.{copy_number, refused_line, report_in};
 
 use record_copies::{Source, read_record, read_source};
 use record_layout::AREA;
 use refusals::Refusal;
 use report_lines::record_lines;
-use report_text::line_of_one;
+use report_text::line;
 
 // How many bytes hold every report.
 pub const REPORT_LIMIT: usize = 4096;
+
+// The number of the copy that is read.
+fn copy_number(from: Source) -> u32
+    ensures { result ≡ copy_number (Some from) }
+{
+    match from {
+        Source::Copy0 => 0,
+        Source::Copy1 => 1,
+    }
+}
 
 // The line of a refusal.
 fn refused_line(out: &mut [u8], refusal: Refusal) -> usize
     requires { Room 0 (refused_line (number_of refusal)) out.old }
     ensures { Wrote 0 result (refused_line (number_of refusal)) out.old out.new }
 {
-    line_of_one(out, 0, b"refused", refusal.number())
+    line(out, 0, b"refused", &[refusal.number()])
 }
 
 // Writes the report of an area at the front of `out` and answers how many bytes it has; every byte past it stays. A
@@ -34,10 +44,8 @@ pub fn report(area: &[u8], out: &mut [u8]) -> usize
     if area.len() != AREA {
         return refused_line(out, Refusal::AreaLength);
     }
-    let from = read_source(area);
-    match from {
-        Source::Copy0 => record_lines(out, 0, read_record(area, from)),
-        Source::Copy1 => record_lines(out, 1, read_record(area, from)),
-        Source::Neither => refused_line(out, Refusal::NoSoundCopy),
-    }
+    let Some(from) = read_source(area) else {
+        return refused_line(out, Refusal::NoSoundCopy);
+    };
+    record_lines(out, copy_number(from), read_record(area, from))
 }

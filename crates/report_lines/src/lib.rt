@@ -9,16 +9,16 @@ ghost use Rattle.report_text.specs.Wrote.{Room, Wrote};
 ghost use Rattle.report_lines.specs.Lines.{bank_line, image_line, image_lines, head_lines, record_lines};
 
 use record_layout::{accepted_word, active, bank_count, image_count, previous, size, state};
-use report_text::{line_of_one, line_of_three, line_of_two};
+use report_text::line;
 
 // The first three lines.
 fn head_lines(out: &mut [u8], copy: u32, r: &[u8]) -> usize
     requires { (sound r.now ≡ true) × Room 0 (head_lines copy r.now) out.old }
     ensures { Wrote 0 result (head_lines copy r.now) out.old out.new }
 {
-    let n = line_of_two(out, 0, b"record", copy, size(r));
-    let m = line_of_one(out, n, b"active", active(r));
-    line_of_one(out, m, b"previous", previous(r))
+    let n = line(out, 0, b"record", &[copy, size(r)]);
+    let m = line(out, n, b"active", &[active(r)]);
+    line(out, m, b"previous", &[previous(r)])
 }
 
 // The line of bank b.
@@ -26,7 +26,7 @@ fn bank_line(out: &mut [u8], k: usize, r: &[u8], b: usize) -> usize
     requires { (sound r.now ≡ true) × (b < bank_count r.now) × Room k (bank_line r.now b) out.old }
     ensures { Wrote k result (bank_line r.now b) out.old out.new }
 {
-    line_of_two(out, k, b"bank", b as u32, state(r, b) as u32)
+    line(out, k, b"bank", &[b as u32, u32::from(state(r, b))])
 }
 
 // The lines of all banks.
@@ -34,12 +34,9 @@ fn bank_lines(out: &mut [u8], k: usize, r: &[u8]) -> usize
     requires { (sound r.now ≡ true) × Room k (ascending (bank_count r.now) (bank_line r.now)) out.old }
     ensures { Wrote k result (ascending (bank_count r.now) (bank_line r.now)) out.old out.new }
 {
-    let banks = bank_count(r);
     let mut n = k;
-    let mut b = 0;
-    while b < banks {
+    for b in 0..bank_count(r) {
         n = bank_line(out, n, r, b);
-        b += 1;
     }
     n
 }
@@ -50,7 +47,7 @@ fn image_line(out: &mut [u8], k: usize, r: &[u8], i: usize, b: usize) -> usize
     ensures { Wrote k result (image_line r.now i b) out.old out.new }
 {
     let flag = accepted_word(r, bank_count(r), i, b);
-    line_of_three(out, k, b"image", i as u32, b as u32, flag)
+    line(out, k, b"image", &[i as u32, b as u32, flag])
 }
 
 // The lines of image i in all banks.
@@ -58,12 +55,9 @@ fn image_lines(out: &mut [u8], k: usize, r: &[u8], i: usize) -> usize
     requires { (sound r.now ≡ true) × (i < image_count r.now) × Room k (image_lines r.now i) out.old }
     ensures { Wrote k result (image_lines r.now i) out.old out.new }
 {
-    let banks = bank_count(r);
     let mut n = k;
-    let mut b = 0;
-    while b < banks {
+    for b in 0..bank_count(r) {
         n = image_line(out, n, r, i, b);
-        b += 1;
     }
     n
 }
@@ -74,12 +68,9 @@ fn all_images(out: &mut [u8], k: usize, r: &[u8]) -> usize
     ensures { Wrote k result (ascending (image_count r.now) (image_lines r.now))
         out.old out.new }
 {
-    let images = image_count(r);
     let mut n = k;
-    let mut i = 0;
-    while i < images {
+    for i in 0..image_count(r) {
         n = image_lines(out, n, r, i);
-        i += 1;
     }
     n
 }

@@ -5,10 +5,13 @@ use Prim.Native.Nat.{ℕ, ◌+◌, ◌≤◌, ◌<◌}
 use native.Mathlib.Nat.{add-zero}
 use native.Mathlib.Omega.{arith}
 use native.Mathlib.Numerals.{add-one}
-use lib.ListN.{length, take, set, get_or, length-set, length-append, length-take, take-append-drop}
-use lib.Seq.{take-suc, take_all}
+use borrow.Rule.Slice.PartMut.{put_mid}
+use lib.ListN.{length, drop, set, get_or, length-set, length-append, take-append-drop}
+use lib.Seq.{drop-cons}
+use Rattle.std.proofs.lemmas.List.{drop_all}
 use Rattle.fields.specs.Number.{put}
-use Rattle.fields.proofs.Put.{put_sets, put_more}
+use Rattle.fields.proofs.Put.{put_sets, put_more, put_length, put_mid_put}
+use Rattle.report_text.specs.Text.{tab, line_feed, decimal, numbers}
 use Rattle.report_text.specs.Wrote.{Room, Wrote}
 
 pub wrote_none : (k : ℕ) (out : List ℕ) → Wrote k k [] out out
@@ -47,20 +50,40 @@ and_then {k} {m} {n} {t} {u} {a} {b} {c} h p q = wrote_then k m n t u a b c h p 
 pub room_left : {k m : ℕ} {t a b : List ℕ} (u : List ℕ) → Room k (t ++ u) a → Wrote k m t a b → Room m u b
 room_left {k} {m} {t} {a} {b} u h p = room_then k m t u a b h p
 
--- a word, byte by byte
-pub wrote_start : (k : ℕ) (word out : List ℕ) → Wrote k (k + 0) (take 0 word) out out
-wrote_start k word out = rw add-zero (wrote_none k out)
+-- a word, copied whole: n is its length, as the copy has it
+pub wrote_word : (k n : ℕ) (word out : List ℕ) {copied : List ℕ} → n ≡ length word → Room k word out → copied ≡ word
+    → Wrote k (k + length word) word out (put_mid k n out copied)
+wrote_word k n word out {copied} e h c =
+    let p : put_mid k n out copied ≡ put out k word = rw c (put_mid_put out k n word (sym e)) in
+    record { count = refl; kept = rw p (put_length out k word h); is = p }
 
-pub wrote_next : (k i : ℕ) (word out new : List ℕ) → i < length word → Room k word out → Wrote k (k + i) (take i word) out new
-    → Wrote k (k + (i + 1)) (take (i + 1) word) out (set new (k + i) (get_or word i 0))
-wrote_next k i word out new h room p =
-    let x = get_or word i 0 in
-    let e : take (i + 1) word ≡ take i word ++ (x ∷ []) = rw add-one (take-suc word i 0 h) in
-    let z : k + (i + 1) ≡ k + i + 1 = omega arith in
-    let l : length (take i word ++ (x ∷ [])) ≤ length word = rw (length-append, length-take) (omega arith) in
-    rw (e, z)
-    (wrote_then k (k + i) (k + i + 1) (take i word) (x ∷ []) out new (set new (k + i) x) (omega arith) p
-    (wrote_one (k + i) x new (omega (arith, p.kept))))
+-- ---- a loop that writes a text piece by piece: what is left of it fits, and with it the whole is written from k on
+pub record Left (k n : ℕ) (left whole before out : List ℕ) : Type 0 where
+  pub kept : length out ≡ length before
+  pub room : Room n left out
+  pub ends : (m : ℕ) (last : List ℕ) → Wrote n m left out last → Wrote k m whole before last
 
-pub wrote_whole : (k i : ℕ) (word out new : List ℕ) → length word ≤ i → Wrote k (k + i) (take i word) out new → Wrote k (k + i) word out new
-wrote_whole k i word out new h p = rw (take_all i word h) at p
+pub left_behind : {k n : ℕ} {t a b : List ℕ} (u : List ℕ) → Room k (t ++ u) a → Wrote k n t a b → Left k n u (t ++ u) a b
+left_behind {k} {n} {t} {a} {b} u h p = record { kept = p.kept; room = room_left u h p; ends = λ m last q. and_then h p q }
+
+module _ {k n : ℕ} {left whole before out : List ℕ} (p : Left k n left whole before out) where
+  pub left_room : (t u : List ℕ) → left ≡ t ++ u → Room n t out
+  left_room t u e = room_first n t u out (rw e at p.room)
+
+  pub left_more : {m : ℕ} {t new : List ℕ} (u : List ℕ) → left ≡ t ++ u → Wrote n m t out new → Left k m u whole before new
+  left_more {m} {t} {new} u e q =
+      let h : Room n (t ++ u) out = rw e at p.room in
+      record {
+        kept = q.kept ∙ p.kept;
+        room = room_left u h q;
+        ends = λ j last w. p.ends j last (rw e (and_then h q w));
+      }
+
+-- the numbers from i on: the one at i, and those behind it
+pub numbers_next : (ns : List ℕ) (i : ℕ) → i < length ns → numbers (drop i ns) ≡ (tab ∷ decimal (get_or ns i 0)) ++ numbers (drop (i + 1) ns)
+unfolding numbers
+numbers_next ns i h = rw (drop-cons ns i 0 h, add-one)
+
+pub numbers_end : (ns : List ℕ) (i : ℕ) → length ns ≤ i → numbers (drop i ns) ≡ line_feed ∷ []
+unfolding numbers
+numbers_end ns i h = rw (drop_all i ns h)

@@ -2,7 +2,7 @@
 #![tactic(auto)]
 
 ghost use Rattle.std.specs.Prelude.{◌≡◌, [], ◌∷◌, ◌<◌};
-ghost use Rattle.report_text.specs.Text.{tab, digit_of, decimal, numbers, line};
+ghost use Rattle.report_text.specs.Text.{tab, digit_of, decimal, line};
 ghost use Rattle.report_text.specs.Wrote.{Room, Wrote};
 
 // One byte at k. Each function here answers the place behind what it wrote.
@@ -19,12 +19,9 @@ fn put_word(out: &mut [u8], k: usize, word: &[u8]) -> usize
     requires { Room k word.now out.old }
     ensures { Wrote k result word.now out.old out.new }
 {
-    let mut i = 0;
-    while i < word.len() {
-        out[k + i] = word[i];
-        i += 1;
-    }
-    k + i
+    let end = k + word.len();
+    out[k..end].copy_from_slice(word);
+    end
 }
 
 // The digit of a number below ten.
@@ -56,41 +53,14 @@ fn put_number(out: &mut [u8], k: usize, x: u32) -> usize
     put_decimal(out, n, x)
 }
 
-// The last number of a line, and the line's end.
-fn put_last(out: &mut [u8], k: usize, x: u32) -> usize
-    requires { Room k (numbers (x ∷ [])) out.old }
-    ensures { Wrote k result (numbers (x ∷ [])) out.old out.new }
+// A line of a word and numbers.
+pub fn line(out: &mut [u8], k: usize, word: &[u8], numbers: &[u32]) -> usize
+    requires { Room k (line word.now numbers.now) out.old }
+    ensures { Wrote k result (line word.now numbers.now) out.old out.new }
 {
-    let n = put_number(out, k, x);
+    let mut n = put_word(out, k, word);
+    for x in numbers {
+        n = put_number(out, n, *x);
+    }
     put_byte(out, n, b'\n')
-}
-
-// A line of a word and one number.
-pub fn line_of_one(out: &mut [u8], k: usize, word: &[u8], x: u32) -> usize
-    requires { Room k (line word.now (x ∷ [])) out.old }
-    ensures { Wrote k result (line word.now (x ∷ [])) out.old out.new }
-{
-    let n = put_word(out, k, word);
-    put_last(out, n, x)
-}
-
-// A line of a word and two numbers.
-pub fn line_of_two(out: &mut [u8], k: usize, word: &[u8], x: u32, y: u32) -> usize
-    requires { Room k (line word.now (x ∷ y ∷ [])) out.old }
-    ensures { Wrote k result (line word.now (x ∷ y ∷ [])) out.old out.new }
-{
-    let n = put_word(out, k, word);
-    let m = put_number(out, n, x);
-    put_last(out, m, y)
-}
-
-// A line of a word and three numbers.
-pub fn line_of_three(out: &mut [u8], k: usize, word: &[u8], x: u32, y: u32, z: u32) -> usize
-    requires { Room k (line word.now (x ∷ y ∷ z ∷ [])) out.old }
-    ensures { Wrote k result (line word.now (x ∷ y ∷ z ∷ [])) out.old out.new }
-{
-    let n = put_word(out, k, word);
-    let m = put_number(out, n, x);
-    let l = put_number(out, m, y);
-    put_last(out, l, z)
 }

@@ -1,30 +1,22 @@
 -- `all_images` meets its contract. The loop's invariant: the lines of the images below i are written. Assumes nothing.
-use Prim.Native.Nat.{◌-◌}
 use native.Mathlib.Omega.{arith}
-use Rattle.report_lines.proofs.Known.{few_images}
 use Rattle.record_layout.proofs.Sound.{sound_long}
 use Rattle.report_lines.proofs.Rows.{rows_none, rows_room, rows_more, rows_all}
 use Rattle.report_lines.proofs.all_images.Goals as goal
 
-pub image_count-images-requires : goal.image_count-images-requires
-image_count-images-requires c = sound_long c.args.r.now c.requires.0
+pub image_count-i-end-requires : goal.image_count-i-end-requires
+image_count-i-end-requires c = sound_long c.args.r.now c.requires.0
 
 pub loop-i-init : goal.loop-i-init
-loop-i-init c = rows_none c.image_count-images.ensures c.requires.1
+loop-i-init c = rows_none c.image_count-i-end.ensures c.requires.1
 
 pub image_lines-n-requires : goal.image_lines-n-requires
 image_lines-n-requires c =
     let t = c.loop-i-test.true in
     (c.requires.0, omega (arith, c.loop-i.invariant.limit, t), rows_room c.loop-i.invariant c.requires.1 t)
 
-pub overflow_add-i : goal.overflow_add-i
-overflow_add-i c = omega (arith, few_images c.args.r.now c.requires.0, c.loop-i.invariant.limit)
-
 pub loop-i-preserved : goal.loop-i-preserved
 loop-i-preserved c = rows_more c.loop-i.invariant c.requires.1 c.loop-i-test.true c.image_lines-n.ensures
-
-pub shape_of-out : goal.shape_of-out
-shape_of-out c = c.loop-i.invariant.wrote.kept
 
 pub returns : goal.returns
 returns c = rows_all c.loop-i.invariant c.loop-i-test.false

@@ -11,10 +11,10 @@ overflow_cast-b c = omega (arith, few_banks c.args.r.now c.requires.0)
 pub state-requires : goal.state-requires
 state-requires c = (sound_long c.args.r.now c.requires.0, omega (arith, few_banks c.args.r.now c.requires.0))
 
-pub line_of_two-requires : goal.line_of_two-requires
+pub line-requires : goal.line-requires
 unfolding bank_line
-line_of_two-requires c = rw c.state.ensures c.requires.2
+line-requires c = rw (c.from.ensures, c.state.ensures) c.requires.2
 
 pub returns : goal.returns
 unfolding bank_line
-returns c = rw (← c.state.ensures) c.line_of_two.ensures
+returns c = rw (← c.state.ensures, ← c.from.ensures) c.line.ensures

@@ -1,30 +1,22 @@
 -- `bank_lines` meets its contract. The loop's invariant: the lines of the banks below b are written. Assumes nothing.
-use Prim.Native.Nat.{◌-◌}
 use native.Mathlib.Omega.{arith}
-use Rattle.report_lines.proofs.Known.{few_banks}
 use Rattle.record_layout.proofs.Sound.{sound_long}
 use Rattle.report_lines.proofs.Rows.{rows_none, rows_room, rows_more, rows_all}
 use Rattle.report_lines.proofs.bank_lines.Goals as goal
 
-pub bank_count-banks-requires : goal.bank_count-banks-requires
-bank_count-banks-requires c = sound_long c.args.r.now c.requires.0
+pub bank_count-b-end-requires : goal.bank_count-b-end-requires
+bank_count-b-end-requires c = sound_long c.args.r.now c.requires.0
 
 pub loop-b-init : goal.loop-b-init
-loop-b-init c = rows_none c.bank_count-banks.ensures c.requires.1
+loop-b-init c = rows_none c.bank_count-b-end.ensures c.requires.1
 
 pub bank_line-n-requires : goal.bank_line-n-requires
 bank_line-n-requires c =
     let t = c.loop-b-test.true in
     (c.requires.0, omega (arith, c.loop-b.invariant.limit, t), rows_room c.loop-b.invariant c.requires.1 t)
 
-pub overflow_add-b : goal.overflow_add-b
-overflow_add-b c = omega (arith, few_banks c.args.r.now c.requires.0, c.loop-b.invariant.limit)
-
 pub loop-b-preserved : goal.loop-b-preserved
 loop-b-preserved c = rows_more c.loop-b.invariant c.requires.1 c.loop-b-test.true c.bank_line-n.ensures
-
-pub shape_of-out : goal.shape_of-out
-shape_of-out c = c.loop-b.invariant.wrote.kept
 
 pub returns : goal.returns
 returns c = rows_all c.loop-b.invariant c.loop-b-test.false

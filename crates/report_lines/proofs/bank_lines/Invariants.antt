@@ -1,12 +1,8 @@
 -- `bank_lines` meets its contract. The loop's invariant: the lines of the banks below b are written. Assumes nothing.
-use Prim.Native.Nat.{◌-◌}
 use Rattle.record_layout.specs.Layout.{bank_count}
 use Rattle.report_lines.specs.Lines.{bank_line}
 use Rattle.report_lines.proofs.Rows.{Rows}
 use Rattle.report_lines.proofs.bank_lines.Given as goal
 
 abbrev pub invariant-loop-b : goal.invariant-loop-b
-invariant-loop-b l = Rows (bank_line l.r) (bank_count l.r) l.k l.initial.out l.banks l.n l.b l.out
-
-abbrev pub decreases-loop-b : goal.decreases-loop-b
-decreases-loop-b l = l.banks - l.b
+invariant-loop-b l = Rows (bank_line l.r) (bank_count l.r) l.k l.initial.out l.b-end l.n l.b l.out

@@ -25,47 +25,47 @@ namedLines r = activeLine r ++ previousLine r
 pub size-requires : goal.size-requires
 size-requires c = sound_long c.args.r.now c.requires.0
 
-pub line_of_two-n-requires : goal.line_of_two-n-requires
+pub line-n-requires : goal.line-n-requires
 unfolding head_lines
-line_of_two-n-requires c =
+line-n-requires c =
     let a = c.args in
     rw c.size.ensures (room_first 0 (recordLine a.copy a.r.now) (namedLines a.r.now) a.out.now c.requires.1)
 
 pub active-requires : goal.active-requires
 active-requires c = sound_long c.args.r.now c.requires.0
 
-pub line_of_one-m-requires : goal.line_of_one-m-requires
+pub line-m-requires : goal.line-m-requires
 unfolding head_lines
-line_of_one-m-requires c =
-    let first : Wrote 0 c.line_of_two-n.result (recordLine c.args.copy c.args.r.now) c.args.out.now c.line_of_two-n.new.out = rw (← c.size.ensures) c.line_of_two-n.ensures in
-    let behind-first : Room c.line_of_two-n.result (namedLines c.args.r.now) c.line_of_two-n.new.out = let a = c.args in
-    room_then 0 c.line_of_two-n.result (recordLine a.copy a.r.now) (namedLines a.r.now) a.out.now c.line_of_two-n.new.out c.requires.1 first in
+line-m-requires c =
+    let first : Wrote 0 c.line-n.result (recordLine c.args.copy c.args.r.now) c.args.out.now c.line-n.new.out = rw (← c.size.ensures) c.line-n.ensures in
+    let behind-first : Room c.line-n.result (namedLines c.args.r.now) c.line-n.new.out = let a = c.args in
+    room_then 0 c.line-n.result (recordLine a.copy a.r.now) (namedLines a.r.now) a.out.now c.line-n.new.out c.requires.1 first in
     let a = c.args in
-    rw c.active.ensures (room_first c.line_of_two-n.result (activeLine a.r.now) (previousLine a.r.now) c.line_of_two-n.new.out behind-first)
+    rw c.active.ensures (room_first c.line-n.result (activeLine a.r.now) (previousLine a.r.now) c.line-n.new.out behind-first)
 
 pub previous-requires : goal.previous-requires
 previous-requires c = sound_long c.args.r.now c.requires.0
 
-pub line_of_one-requires : goal.line_of_one-requires
+pub line-requires : goal.line-requires
 unfolding head_lines
-line_of_one-requires c =
-    let first : Wrote 0 c.line_of_two-n.result (recordLine c.args.copy c.args.r.now) c.args.out.now c.line_of_two-n.new.out = rw (← c.size.ensures) c.line_of_two-n.ensures in
-    let behind-first : Room c.line_of_two-n.result (namedLines c.args.r.now) c.line_of_two-n.new.out = let a = c.args in
-    room_then 0 c.line_of_two-n.result (recordLine a.copy a.r.now) (namedLines a.r.now) a.out.now c.line_of_two-n.new.out c.requires.1 first in
+line-requires c =
+    let first : Wrote 0 c.line-n.result (recordLine c.args.copy c.args.r.now) c.args.out.now c.line-n.new.out = rw (← c.size.ensures) c.line-n.ensures in
+    let behind-first : Room c.line-n.result (namedLines c.args.r.now) c.line-n.new.out = let a = c.args in
+    room_then 0 c.line-n.result (recordLine a.copy a.r.now) (namedLines a.r.now) a.out.now c.line-n.new.out c.requires.1 first in
     let a = c.args in
     rw c.previous.ensures
-    (room_then c.line_of_two-n.result c.line_of_one-m.result (activeLine a.r.now) (previousLine a.r.now) c.line_of_two-n.new.out c.line_of_one-m.new.out
-    behind-first (rw (← c.active.ensures) c.line_of_one-m.ensures))
+    (room_then c.line-n.result c.line-m.result (activeLine a.r.now) (previousLine a.r.now) c.line-n.new.out c.line-m.new.out
+    behind-first (rw (← c.active.ensures) c.line-m.ensures))
 
 pub returns : goal.returns
 unfolding head_lines
 returns c =
-    let first : Wrote 0 c.line_of_two-n.result (recordLine c.args.copy c.args.r.now) c.args.out.now c.line_of_two-n.new.out = rw (← c.size.ensures) c.line_of_two-n.ensures in
-    let behind-first : Room c.line_of_two-n.result (namedLines c.args.r.now) c.line_of_two-n.new.out = let a = c.args in
-    room_then 0 c.line_of_two-n.result (recordLine a.copy a.r.now) (namedLines a.r.now) a.out.now c.line_of_two-n.new.out c.requires.1 first in
+    let first : Wrote 0 c.line-n.result (recordLine c.args.copy c.args.r.now) c.args.out.now c.line-n.new.out = rw (← c.size.ensures) c.line-n.ensures in
+    let behind-first : Room c.line-n.result (namedLines c.args.r.now) c.line-n.new.out = let a = c.args in
+    room_then 0 c.line-n.result (recordLine a.copy a.r.now) (namedLines a.r.now) a.out.now c.line-n.new.out c.requires.1 first in
     let a = c.args in
-    wrote_then 0 c.line_of_two-n.result c.line_of_one.result (recordLine a.copy a.r.now) (namedLines a.r.now) a.out.now c.line_of_two-n.new.out
-    c.line_of_one.new.out c.requires.1 first
-    (wrote_then c.line_of_two-n.result c.line_of_one-m.result c.line_of_one.result (activeLine a.r.now) (previousLine a.r.now) c.line_of_two-n.new.out
-    c.line_of_one-m.new.out c.line_of_one.new.out behind-first (rw (← c.active.ensures) c.line_of_one-m.ensures)
-    (rw (← c.previous.ensures) c.line_of_one.ensures))
+    wrote_then 0 c.line-n.result c.line.result (recordLine a.copy a.r.now) (namedLines a.r.now) a.out.now c.line-n.new.out
+    c.line.new.out c.requires.1 first
+    (wrote_then c.line-n.result c.line-m.result c.line.result (activeLine a.r.now) (previousLine a.r.now) c.line-n.new.out
+    c.line-m.new.out c.line.new.out behind-first (rw (← c.active.ensures) c.line-m.ensures)
+    (rw (← c.previous.ensures) c.line.ensures))

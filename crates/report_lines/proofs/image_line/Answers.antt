@@ -17,10 +17,10 @@ overflow_cast-i c = omega (arith, few_images c.args.r.now c.requires.0, few_bank
 pub overflow_cast-b : goal.overflow_cast-b
 overflow_cast-b c = omega (arith, few_images c.args.r.now c.requires.0, few_banks c.args.r.now c.requires.0)
 
-pub line_of_three-requires : goal.line_of_three-requires
+pub line-requires : goal.line-requires
 unfolding image_line
-line_of_three-requires c = rw c.accepted_word-flag.ensures c.requires.3
+line-requires c = rw c.accepted_word-flag.ensures c.requires.3
 
 pub returns : goal.returns
 unfolding image_line
-returns c = rw (← c.accepted_word-flag.ensures) c.line_of_three.ensures
+returns c = rw (← c.accepted_word-flag.ensures) c.line.ensures

@@ -1,13 +1,9 @@
 -- `image_lines` meets its contract. The loop's invariant: the image's lines in the banks below b are written. Assumes
 -- nothing.
-use Prim.Native.Nat.{◌-◌}
 use Rattle.record_layout.specs.Layout.{bank_count}
 use Rattle.report_lines.specs.Lines.{image_line}
 use Rattle.report_lines.proofs.Rows.{Rows}
 use Rattle.report_lines.proofs.image_lines.Given as goal
 
 abbrev pub invariant-loop-b : goal.invariant-loop-b
-invariant-loop-b l = Rows (image_line l.r l.i) (bank_count l.r) l.k l.initial.out l.banks l.n l.b l.out
-
-abbrev pub decreases-loop-b : goal.decreases-loop-b
-decreases-loop-b l = l.banks - l.b
+invariant-loop-b l = Rows (image_line l.r l.i) (bank_count l.r) l.k l.initial.out l.b-end l.n l.b l.out
