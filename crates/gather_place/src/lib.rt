@@ -29,7 +29,8 @@ fn shared_end(w: &[u8], base: u64, d: u64, p: usize, t: usize) -> Option<usize>
         return Some(at + 16);
     }
     let block = block_at(w, base, d)?;
-    share(p, t, block.start, block.len()).then_some(block.end)
+    let n = block.len();
+    share(p, t, block.start, n).then_some(block.end)
 }
 
 // The same for the first of the descriptors, in list order, that has such an end.

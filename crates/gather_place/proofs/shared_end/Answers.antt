@@ -30,7 +30,7 @@ pub returns : goal.returns
 returns c =
     let a = c.args in
     let b = c.in_ok-block.ensures in
-    let n : c.len.result ≡ length_of a.w.now a.base a.d = omega (arith, c.len.ensures.value, b.ends) in
+    let n : c.len-n.result ≡ length_of a.w.now a.base a.d = omega (arith, c.len-n.ensures.value, b.ends) in
     rw c.then_some.ensures
     (past_block a.w.now a.base a.d a.p a.t c.in_ok-block.block c.requires.0 b
     (clear_at _ _ _ _ c.requires.0.low (not-false _ (sym c.if-share.ensures))) _ n _ c.share-2.ensures)
