@@ -3,7 +3,7 @@
 -- slice at exit, and of one history (crates/proof_history). w is a world, a the bytes of an area, s the numbers of a
 -- store slice, q a session, r the bytes of a record, ss a list of stores, n how many of them are done before the cut,
 -- es a list of start-ups and repairs. Assumes nothing.
-use Rattle.std.specs.Prelude.{ℕ, ◌*◌, ◌/◌, ◌≤◌, ◌≡◌, ◌≢◌, ◌⊎◌, true, List, [], ◌∷◌, ◌++◌, length, None}
+use Rattle.std.specs.Prelude.{ℕ, ◌*◌, ◌/◌, ◌≤◌, ◌≡◌, ◌≢◌, ◌⊎◌, true, None, List, [], ◌∷◌, ◌++◌, length}
 use Rattle.std.proofs.Math.Option.{none, some}
 use Rattle.fields.specs.Number.{Bytes}
 use Rattle.record_layout.specs.Layout.{area_size, copy0, copy1}
