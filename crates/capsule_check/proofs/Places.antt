@@ -124,8 +124,8 @@ holds s k = go (verdict s) refl
 
     go : (v : Verdict) → verdict s ≡ v
         → Holds s
-            (found (after v (unless (ltb k (items (body s))) NoItem (Ok tt)))
-                (item_of (ltb k (drivers (body s))) (item_start_in s k) (item_end_in s k)))
+        (found (after v (unless (ltb k (items (body s))) NoItem (Ok tt)))
+        (item_of (ltb k (drivers (body s))) (item_start_in s k) (item_end_in s k)))
     go (Ok x) e = numbers (faultless s e) (ltb k (items (body s))) refl
     go (Err r) e = tt
 
