@@ -23,7 +23,8 @@ use Rattle.update_session.specs.declared.Session.TheVariants.{Staging}
 use Rattle.update_session.specs.Outcome.{Outcome, refused_with, passed_with}
 use Rattle.update_changes.specs.Changed.{Call}
 use Rattle.update_admission.specs.Rows.{repair_tests, area_tests}
-use Rattle.update_session.specs.Calls.{Result, held, staging_test, common_tests, own_tests, tests, transition, changed_to, following, answered}
+use Rattle.update_session.specs.Calls.{Result, held, staging_test, common_tests, own_tests, tests, transition}
+use Rattle.update_session.specs.Calls.{changed_to, following, answered}
 
 pub not_false : (b : Bool) → not b ≡ false → b ≡ true
 not_false true e = refl
@@ -55,7 +56,8 @@ common_changeable q a s e =
     record { long = h.0; equal = h.1; room = ltb-false _ _ p.1.0 }
 
 -- a Staging session's set has no bit past the images
-pub common_below : (q : Session) (bank set : ℕ) (a : List ℕ) (n : ℕ) → q ≡ Staging bank set → passed ≡ decide (common_tests q a n) → set < 2 ^ image_count (held a)
+pub common_below : (q : Session) (bank set : ℕ) (a : List ℕ) (n : ℕ) → q ≡ Staging bank set
+    → passed ≡ decide (common_tests q a n) → set < 2 ^ image_count (held a)
 unfolding common_tests
 common_below q bank set a n t e =
     let p = no_fault (staging_test q (held a) ∷ []) (passed_first (area_tests a n) _ e).1 in
@@ -67,17 +69,20 @@ module _ (k : Call) (q : Session) (a s : List ℕ) where
   unfolding answered following tests
   refused_first why e = rw (← refused_before (common_tests q a (length s)) (own_tests k q (held a)) _ _ e)
 
-  pub refused_own : (why : Refusal) → passed ≡ decide (common_tests q a (length s)) → refused why ≡ decide (own_tests k q (held a)) → (refused_with q why, s) ≡ answered k q a s
+  pub refused_own : (why : Refusal) → passed ≡ decide (common_tests q a (length s)) → refused why ≡ decide (own_tests k q (held a))
+      → (refused_with q why, s) ≡ answered k q a s
   unfolding answered following tests
   refused_own why e o = rw (← passed_before (common_tests q a (length s)) (own_tests k q (held a)) _ e o)
 
-  pub accepted_own : (x : Result) (to : Session × List ℕ) → passed ≡ decide (common_tests q a (length s)) → passed ≡ decide (own_tests k q (held a)) → to ≡ transition k q (held a)
+  pub accepted_own : (x : Result) (to : Session × List ℕ) → passed ≡ decide (common_tests q a (length s))
+      → passed ≡ decide (own_tests k q (held a)) → to ≡ transition k q (held a)
       → x ≡ changed_to to a s → x ≡ answered k q a s
   unfolding answered following tests
   accepted_own x to e o t h = rw (← passed_before (common_tests q a (length s)) (own_tests k q (held a)) _ e o, ← t) h
 
 -- the stores of a change are listed
-pub listed : (o : Outcome) (next : Session) (a s z made new : List ℕ) (n : ℕ) → o ≡ passed_with next n → made ≡ new → AtFront n (change_stores a made) s z
+pub listed : (o : Outcome) (next : Session) (a s z made new : List ℕ) (n : ℕ) → o ≡ passed_with next n → made ≡ new
+    → AtFront n (change_stores a made) s z
     → (o, z) ≡ changed_to (next, new) a s
 unfolding changed_to
 listed o next a s z made new n p e l = rw (p, l.count, l.lists, e)

@@ -14,6 +14,7 @@ use Rattle.update_admission.proofs.Area.{some_sound}
 use Rattle.update_start_up.specs.StartUp.{started_from, start_up_tests, start_up_of}
 
 -- where a record is read, start-up answers by it
-pub read_by : (a : List ℕ) (booted : ℕ) (x : Source) → length a ≡ area_size → source_of a ≡ Some x → start_up_of a booted ≡ started_from (record_read a) booted
+pub read_by : (a : List ℕ) (booted : ℕ) (x : Source) → length a ≡ area_size → source_of a ≡ Some x
+    → start_up_of a booted ≡ started_from (record_read a) booted
 unfolding start_up_of start_up_tests read_tests started_from decide
 read_by a booted x l e = rw (eq-eqb (length a) area_size l, some_sound a x e)

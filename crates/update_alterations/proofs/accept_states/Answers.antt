@@ -12,7 +12,8 @@ states_with-requires c =
     (c.requires.0, rw c.active.ensures (sound_named r c.requires.0).0)
 
 pub returns-then-all_accepted_after : goal.returns-then-all_accepted_after
-returns-then-all_accepted_after c = rw (sym c.all_accepted_after.ensures ∙ c.if-all_accepted_after.true, ← c.active.ensures) c.states_with.ensures
+returns-then-all_accepted_after c =
+    rw (sym c.all_accepted_after.ensures ∙ c.if-all_accepted_after.true, ← c.active.ensures) c.states_with.ensures
 
 pub states-requires : goal.states-requires
 states-requires c = sound_long c.args.r.now c.requires.0

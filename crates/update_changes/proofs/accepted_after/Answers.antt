@@ -22,4 +22,6 @@ accepted_word-requires c =
     rw (c.bank_count.ensures, c.active.ensures) (sized r c.requires.0, c.requires.2, (sound_named r c.requires.0).0)
 
 pub returns-else-k-i : goal.returns-else-k-i
-returns-else-k-i c = rw (marked_other c.args.r.now c.requires.0 c.args.i c.requires.1 c.args.k c.if-k-i.false, ← c.active.ensures, ← c.accepted_word.ensures)
+returns-else-k-i c =
+    let a = c.args in
+    rw (marked_other a.r.now c.requires.0 a.i c.requires.1 a.k c.if-k-i.false, ← c.active.ensures, ← c.accepted_word.ensures)

@@ -36,9 +36,10 @@ entry_at-requires c =
 
 pub same_guid-requires : goal.same_guid-requires
 same_guid-requires c =
-    let r = c.args.r.now in (
+    let r = c.args.r.now in
+    let lt : c.loop-i.i < image_count r = rw (← c.image_count-i-end.ensures) c.loop-i-test.true in (
       rw (c.entry_at.ensures.0, c.bank_count-banks.ensures)
-          (guid_in r (bank_count r) (image_count r) c.loop-i.i (sized r c.requires.0) (rw (← c.image_count-i-end.ensures) c.loop-i-test.true)),
+          (guid_in r (bank_count r) (image_count r) c.loop-i.i (sized r c.requires.0) lt),
       omega arith,
     )
 

@@ -41,6 +41,7 @@ unfolding staged_fits
 returns-else-state c =
     elim c.if-bank-update_bank.branch [
       | then-bank-update_bank w ↦
-          rw (← c.update_bank.ensures.0, eq-eqb _ _ w.if-bank-update_bank.true, ← w.state.ensures, sym w.value-is ∙ c.if-state.false) c.if-state.false
+          let bank = eq-eqb _ _ w.if-bank-update_bank.true in
+          rw (← c.update_bank.ensures.0, bank, ← w.state.ensures, sym w.value-is ∙ c.if-state.false) c.if-state.false
       | else-bank-update_bank w ↦ rw (← c.update_bank.ensures.0, ne_eqb _ _ w.if-bank-update_bank.false) c.if-state.false
     ]

@@ -45,4 +45,5 @@ pub returns : goal.returns
 unfolding decide own_tests next_session new_record change_of
 returns c =
     accepted_own end c.args.self.now c.args.area.now c.args.out.now _ _ c.in_ok-admit.ensures
-    (rw (c.in-Staging.is, ← c.held_record.ensures.0, ← c.missing_images-count.ensures, eq-eqb _ _ c.if-count-ne0.false)) refl c.change.ensures
+    (rw (c.in-Staging.is, ← c.held_record.ensures.0, ← c.missing_images-count.ensures, eq-eqb _ _ c.if-count-ne0.false))
+    refl c.change.ensures
