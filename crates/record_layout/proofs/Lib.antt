@@ -4,4 +4,3 @@ pub mod Below
 pub mod Every
 pub mod Sound
 pub mod Copies
-pub mod Ranged

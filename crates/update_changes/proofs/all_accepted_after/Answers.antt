@@ -1,10 +1,10 @@
 -- `all_accepted_after` meets its contract. Assumes nothing.
 use borrow.Author.Rules.{rules}
-use native.Mathlib.Omega.{arith}
+use mathlib.Core.Path.{refl}
 use lib.Dec.{eqb}
 use Rattle.record_layout.specs.Layout.{active, image_count, accepted}
 use Rattle.record_layout.specs.Rules.{all_accepted}
-use Rattle.record_layout.proofs.Ranged.{below_from_Range}
+use Rattle.record_layout.proofs.Every.{below_from_all}
 use Rattle.record_layout.proofs.Sound.{sound_long}
 use Rattle.update_changes.specs.NewRecord.{marked}
 use Rattle.update_changes.proofs.Setting.{marked_images}
@@ -19,5 +19,6 @@ returns c =
     let r = c.args.r.now in
     let i = c.args.i in
     rw (marked_images r c.requires.0 i c.requires.1)
-    (below_from_Range (λ k. eqb (accepted (marked i r) k (active r)) 1) (image_count r) c.all.ensures.ran
-    (omega (arith, c.image_count.ensures)) (λ x t q k. search rules))
+    (rw c.image_count.ensures at
+    (below_from_all (λ k. eqb (accepted (marked i r) k (active r)) 1) c.image_count.result _ _ c.all.result refl c.all.ensures.ran
+    (λ x t q k. search rules)))
