@@ -13,7 +13,7 @@ use Rattle.fields.proofs.Bytes.{take_bytes, drop_bytes}
 use Rattle.fields.proofs.Guid.{same_refl}
 use Rattle.proof_format_cuts.specs.Area.{after_stores, after_cut}
 use Rattle.proof_format_cuts.specs.Format.{Format, FormatLaws, Writer, WriterLaws, Area, record_of, sound_copy, copy0, copy1}
-use Rattle.proof_format_cuts.specs.Theorem.{read_of, record_read, BothHold, sparing, change_list, cut, Survives, Stays, FormatCuts, FormatCutsHold}
+use Rattle.proof_format_cuts.specs.Theorem.{read_of, record_read, BothHold, sparing, change_list, cut, Survives, Stays, FormatCutsHold}
 use Rattle.proof_format_cuts.proofs.Copy.{Holds, holds_sound}
 use Rattle.proof_format_cuts.proofs.Cut.{read_first, read_second, into0, early, late, last_read, written}
 

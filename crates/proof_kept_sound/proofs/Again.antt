@@ -1,18 +1,14 @@
 -- What holds after a call: a bank that is being staged stays so, and accepting an accepted image changes nothing.
 -- Assumes nothing.
 use mathlib.Core.Path.{◌≡◌, refl, sym, ap, subst, ◌∙◌}
-use mathlib.Core.Bool.{Bool, true, false, cond, ◌||◌}
-use mathlib.Core.Logic.{⊎_elim}
+use mathlib.Core.Bool.{Bool, true, false, cond}
 use mathlib.Core.List.{List}
-use Prim.Native.Nat.{ℕ, ◌+◌, ◌≤◌, ◌<◌}
+use Prim.Native.Nat.{ℕ, ◌+◌, ◌<◌}
 use native.Mathlib.Omega.{arith}
-use borrow.Author.Tests.{eqb-true, eq-eqb, lt-ltb}
-use lib.Dec.{eqb}
-use lib.ListN.{length}
+use borrow.Author.Tests.{eq-eqb}
 use Rattle.fields.specs.Number.{Bytes, bytes, put}
-use Rattle.fields.proofs.Tests.{no_true, either}
 use Rattle.record_layout.specs.Layout.{active, state, bank_count, image_count, accepted_at, accepted}
-use Rattle.record_layout.specs.Rules.{invalid, valid, accepted_bank, state_known, state_allowed, all_accepted, sound}
+use Rattle.record_layout.specs.Rules.{invalid, valid, accepted_bank, all_accepted, sound}
 use Rattle.record_layout.proofs.Sizes.{bank_in}
 use Rattle.record_alterations.specs.Fields.{set_state, set_accepted, with_crc}
 use Rattle.record_layout.proofs.Sound.{sound_long}

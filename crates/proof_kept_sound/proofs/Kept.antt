@@ -2,7 +2,7 @@
 use mathlib.Core.Path.{◌≡◌, refl, sym, subst}
 use mathlib.Core.Bool.{true}
 use mathlib.Core.List.{List}
-use Prim.Native.Nat.{ℕ, ◌<◌}
+use Prim.Native.Nat.{ℕ}
 use Rattle.fields.specs.Number.{Bytes}
 use Rattle.record_layout.specs.Layout.{active, bank_count, image_count}
 use Rattle.record_layout.specs.Rules.{sound}

@@ -52,7 +52,8 @@ unfolding general.record_read general.read_of format.sound_copy format.record_of
 read_some a h = go (sound_copy (copy0 a)) (sound_copy (copy1 a)) h
   where
     go : (s t : Bool) → cond s (Some Copy0) (cond t (Some Copy1) None) ≢ None
-        → cond s (some (record_of (copy0 a))) (cond t (some (record_of (copy1 a))) none) ≡ some (read_from (cond s (Some Copy0) (cond t (Some Copy1) None)) a)
+        → cond s (some (record_of (copy0 a))) (cond t (some (record_of (copy1 a))) none) ≡ some (read_from (cond s (Some Copy0) (cond t
+        (Some Copy1) None)) a)
     go true t h = refl
     go false true h = refl
     go false false h = absurd (h refl)
@@ -152,7 +153,8 @@ unfolding version2
 area_of a l b = record { long = l; bytes = b }
 
 -- a change
-module _ (a new : List ℕ) (l : length a ≡ area_size) (b : Bytes a) (e : sound_and_equal a ≡ true) (bn : Bytes new) (sn : sound new ≡ true) where
+module _ (a new : List ℕ) (l : length a ≡ area_size) (b : Bytes a) (e : sound_and_equal a ≡ true) (bn : Bytes new) (sn : sound new ≡
+    true) where
   cut_is : (n : ℕ) → general.cut version2 planned a new n ≡ changed a new n
   unfolding general.cut
   cut_is n = ap (λ (ss : List Store). after_cut a ss n) (change_is a new)

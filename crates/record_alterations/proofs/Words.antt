@@ -58,14 +58,17 @@ module _ (active previous states : ℕ) (r : List ℕ) (long : 40 ≤ length r) 
 
   three_previous : previous < 4294967296 → le 4 three 12 ≡ previous
   three_previous small =
-      word_apart two 24 states (omega (arith, two_long)) 4 12 (inl (omega arith)) ∙ read_back 4 one 12 previous (omega (arith, one_long)) small
+      word_apart two 24 states (omega (arith, two_long)) 4 12 (inl (omega arith)) ∙ read_back 4 one 12 previous (omega (arith, one_long))
+      small
 
   three_states : states < 4294967296 → le 4 three 24 ≡ states
   three_states small = read_back 4 two 24 states (omega (arith, two_long)) small
 
 -- ---- the accepted words
-module _ (s : List ℕ) (banks images first b flag : ℕ) (long : length s ≡ record_size banks images) (has : le 1 s 32 ≡ banks) (below : b < banks) where
-  module _ (n : ℕ) (l : length (flagged n first b flag s) ≡ length s) (h : le 1 (flagged n first b flag s) 32 ≡ le 1 s 32) (fits : first + suc n ≤ images) where
+module _ (s : List ℕ) (banks images first b flag : ℕ) (long : length s ≡ record_size banks images) (has : le 1 s 32 ≡ banks) (below : b <
+    banks) where
+  module _ (n : ℕ) (l : length (flagged n first b flag s) ≡ length s) (h : le 1 (flagged n first b flag s) 32 ≡ le 1 s 32) (fits : first
+    + suc n ≤ images) where
     -- the next one stands at its place
     next_is : flagged (suc n) first b flag s ≡ put (flagged n first b flag s) (accepted_at banks (first + n) b) (bytes 4 flag)
     unfolding flagged set_accepted le
@@ -106,11 +109,13 @@ module _ (s : List ℕ) (banks images first b flag : ℕ) (long : length s ≡ r
       let e = next_is n k.0 (k.1 1 32 (omega arith)) fits in
       let i = next_in n k.0 (k.1 1 32 (omega arith)) fits in
       ap (λ (l : List ℕ). le 4 l o) e
-      ∙ word_apart (flagged n first b flag s) (accepted_at banks (first + n) b) flag i 4 o (place_apart banks b below (first + n) o whole (other n (omega arith)))
+      ∙ word_apart (flagged n first b flag s) (accepted_at banks (first + n) b) flag i 4 o (place_apart banks b below (first + n) o whole
+      (other n (omega arith)))
       ∙ flagged_miss n o (omega arith) whole (λ j lt. other j (omega arith))
 
   -- one of them
-  flagged_hit : (n j : ℕ) → first + n ≤ images → flag < 4294967296 → j < n → le 4 (flagged n first b flag s) (accepted_at banks (first + j) b) ≡ flag
+  flagged_hit : (n j : ℕ) → first + n ≤ images → flag < 4294967296 → j < n
+      → le 4 (flagged n first b flag s) (accepted_at banks (first + j) b) ≡ flag
   flagged_hit zero j fits small lt = absurd (omega arith)
   flagged_hit (suc n) j fits small lt =
       let k = flagged_kept n (omega arith) in
@@ -123,7 +128,8 @@ module _ (s : List ℕ) (banks images first b flag : ℕ) (long : length s ≡ r
       let z : j ≡ n = omega arith in
       rw z (read_back 4 f (accepted_at banks (first + n) b) flag i small))
       (λ p.
-      word_apart f (accepted_at banks (first + n) b) flag i 4 (accepted_at banks (first + j) b) (inl (place_before banks b below (first + j) (first + n) (omega arith)))
+      word_apart f (accepted_at banks (first + n) b) flag i 4 (accepted_at banks (first + j) b) (inl (place_before banks b below (first +
+      j) (first + n) (omega arith)))
       ∙ flagged_hit n j (omega arith) small p)
       (le_or_lt n j)
 
@@ -180,7 +186,8 @@ module _ (x : Alteration) (r : List ℕ) (banks : ℕ) (a : Alterable x r banks)
   pub altered_states : x.states < 4294967296 → le 4 (altered_by x r) 24 ≡ x.states
   altered_states small = kept.1 4 24 (omega arith) ∙ three_states x.active x.previous x.states r long small
 
-  pub altered_other : (o : ℕ) → o + 4 ≤ 40 → 4 * (o / 4) ≡ o → (o ≡ 8 → ⊥) → (o ≡ 12 → ⊥) → (o ≡ 24 → ⊥) → le 4 (altered_by x r) o ≡ le 4 r o
+  pub altered_other : (o : ℕ) → o + 4 ≤ 40 → 4 * (o / 4) ≡ o → (o ≡ 8 → ⊥) → (o ≡ 12 → ⊥) → (o ≡ 24 → ⊥) → le 4 (altered_by x r) o
+      ≡ le 4 r o
   altered_other o h whole n8 n12 n24 =
       altered_header 4 o h
       (⊎_elim inl (λ p. ⊎_elim (λ q. absurd (omega (arith, p, q))) inr (words_apart o 12 whole refl n12)) (words_apart o 8 whole refl n8))

@@ -36,7 +36,8 @@ module _ (x : Alteration) (a r : List ℕ) (e : r ≡ record_of (copy0 a)) (q : 
   unfolding change_stores copy_stores
   stores_none h = rw (← e, second, ← h)
 
-  pub stores_both : false ≡ same r (record_with x r) → stores ≡ plan 0 (copy0 a) (record_with x r) ++ plan copy_size (copy1 a) (record_with x r)
+  pub stores_both : false ≡ same r (record_with x r) → stores
+      ≡ plan 0 (copy0 a) (record_with x r) ++ plan copy_size (copy1 a) (record_with x r)
   unfolding change_stores copy_stores
   stores_both h = rw (← e, second, ← h)
 
@@ -46,7 +47,8 @@ module _ (a : List ℕ) where
   unfolding repair_stores
   repair_none h = rw (← h)
 
-  pub repair_copy1 : source_of a ≡ Some Copy0 → false ≡ sound_and_equal a → repair_stores a ≡ plan copy_size (copy1 a) (read_from (source_of a) a)
+  pub repair_copy1 : source_of a ≡ Some Copy0 → false ≡ sound_and_equal a → repair_stores a
+      ≡ plan copy_size (copy1 a) (read_from (source_of a) a)
   unfolding repair_stores other_stores
   repair_copy1 e h = rw (← h, e)
 

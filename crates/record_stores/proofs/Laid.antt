@@ -39,9 +39,11 @@ with_list_snoc d ss o w h =
     let e : length (numbers_of ss) ≡ 2 * length ss = length_numbers_of ss in
     ap (λ (k : ℕ). set (set (with_list d ss) (2 * length ss) o) k w) (add-one (2 * length ss))
     ∙ sets-eq (o ∷ w ∷ []) (with_list d ss) (2 * length ss) (rw (length_with_list d ss) (omega arith))
-    ∙ ap (λ (l : List ℕ). l ++ (o ∷ w ∷ []) ++ drop (2 * length ss + 2) (with_list d ss)) (take_at (numbers_of ss) (drop (2 * length ss) d) (2 * length ss) e)
+    ∙ ap (λ (l : List ℕ). l ++ (o ∷ w ∷ []) ++ drop (2 * length ss + 2) (with_list d ss)) (take_at (numbers_of ss) (drop (2 * length ss)
+    d) (2 * length ss) e)
     ∙ ap (λ (l : List ℕ). numbers_of ss ++ (o ∷ w ∷ []) ++ l)
-    (sym (drop-drop 2 (2 * length ss) (with_list d ss)) ∙ ap (drop 2) (drop_at (numbers_of ss) (drop (2 * length ss) d) (2 * length ss) e) ∙ drop-drop 2 (2 * length ss) d)
+    (sym (drop-drop 2 (2 * length ss) (with_list d ss)) ∙ ap (drop 2) (drop_at (numbers_of ss) (drop (2 * length ss) d) (2 * length ss)
+    e) ∙ drop-drop 2 (2 * length ss) d)
     ∙ ap (λ (l : List ℕ). l ++ drop (2 * length ss + 2) d) (sym (numbers_of_snoc ss o w))
     ∙ ap (λ (j : ℕ). numbers_of (ss ++ ((o, w) ∷ [])) ++ drop j d)
     (let z : 2 * length ss + 2 ≡ 2 * length (ss ++ ((o, w) ∷ [])) = rw length-append (omega arith) in z)
@@ -83,7 +85,8 @@ module _ (c r : List ℕ) where
   differing_append (x ∷ xs) ys = go (eqb (le 4 c x) (le 4 r x)) (differing_append xs ys)
     where
       go : (b : Bool) → differing c r (xs ++ ys) ≡ differing c r xs ++ differing c r ys
-          → cond b (differing c r (xs ++ ys)) (x ∷ differing c r (xs ++ ys)) ≡ cond b (differing c r xs) (x ∷ differing c r xs) ++ differing c r ys
+          → cond b (differing c r (xs ++ ys)) (x ∷ differing c r (xs ++ ys)) ≡ cond b (differing c r xs) (x ∷ differing c r xs) ++
+          differing c r ys
       go true e = e
       go false e = ap {B = List ℕ} (λ l. x ∷ l) e
 
@@ -104,7 +107,8 @@ unfolding offsets
 offsets_snoc o zero = ap {B = List ℕ} (λ k. k ∷ []) (let z : o ≡ o + 4 * 0 = omega arith in z)
 offsets_snoc o (suc n) =
     ap {B = List ℕ} (λ l. o ∷ l)
-    (offsets_snoc (o + 4) n ∙ ap {B = List ℕ} (λ k. offsets (o + 4) n ++ (k ∷ [])) (let z : o + 4 + 4 * n ≡ o + 4 * suc n = omega arith in z))
+    (offsets_snoc (o + 4) n ∙ ap {B = List ℕ} (λ k. offsets (o + 4) n ++ (k ∷ [])) (let z : o + 4 + 4 * n ≡ o + 4 * suc n = omega arith
+    in z))
 
 -- one offset more
 pub offsets_more : (n m : ℕ) → m ≡ 8 + 4 * n → offsets 8 (n + 1) ≡ offsets 8 n ++ (m ∷ [])

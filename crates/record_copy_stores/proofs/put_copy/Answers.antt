@@ -31,8 +31,10 @@ returns-clause-added c =
     let Z : List Store = (b + 4, le 4 N 4) ∷ [] in
     let crc : a.crc ≡ le 4 N 0 = sym (new_crc s.x s.r.now s.banks s.alterable a.crc c.ranges.crc.fits c.requires.0) in
     let version : c.word.result ≡ le 4 N 4 = c.word.ensures ∙ sym (new_apart s.x s.r.now s.banks s.alterable 4 4 (omega arith)) in
-    let second : Added l1.pairs l2.pairs B l1.out.now l2.out.now = rw (← stored_one b C N 0, ← c.read32.ensures, ← crc) c.push_differing.ensures.added in
-    let third : Added l2.pairs l3.pairs D l2.out.now l3.out.now = rw (new_length s.x s.r.now s.banks s.alterable) c.put_words.ensures.added in
+    let second : Added l1.pairs l2.pairs B l1.out.now l2.out.now = rw (← stored_one b C N 0, ← c.read32.ensures, ← crc)
+    c.push_differing.ensures.added in
+    let third : Added l2.pairs l3.pairs D l2.out.now l3.out.now = rw (new_length s.x s.r.now s.banks s.alterable)
+    c.put_words.ensures.added in
     let last : Added l3.pairs l4.pairs Z l3.out.now l4.out.now = rw (← version) c.push-2.ensures.added in
     rw (← copy_is a.area.now b, plan_parts b C N)
     (added_then l0.pairs l1.pairs l4.pairs A (B ++ (D ++ Z)) l0.out.now l1.out.now l4.out.now c.push.ensures.added

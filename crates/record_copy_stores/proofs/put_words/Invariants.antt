@@ -9,5 +9,6 @@ use Rattle.record_copy_stores.proofs.put_words.Given as goal
 abbrev pub invariant-loop-k : goal.invariant-loop-k
 invariant-loop-k l =
     (l.list.out.ghost_name ≡ l.initial.list.out.ghost_name)
-    × Added l.initial.list.pairs l.list.pairs (stored l.base l.c (record_with l.new.x l.new.r.now) (offsets 8 (l.k - 2))) l.initial.list.out.now l.list.out.now
+    × Added l.initial.list.pairs l.list.pairs (stored l.base l.c (record_with l.new.x l.new.r.now) (offsets 8 (l.k - 2)))
+    l.initial.list.out.now l.list.out.now
     × (l.list.pairs ≤ l.initial.list.pairs + (l.k - 2))

@@ -10,7 +10,8 @@ use Rattle.record_alterations.proofs.Altered.entry_word.Goals.{else-o-size-via-t
 pub returns-then-contains : goal.returns-then-contains
 returns-then-contains c =
     let s = c.args.self.now in
-    let i : (s.x.first ≤ (c.args.o - 40) / c.entry_size-size.result) × ((c.args.o - 40) / c.entry_size-size.result < s.x.first + s.x.count) = search rules in
+    let i : (s.x.first ≤ (c.args.o - 40) / c.entry_size-size.result) × ((c.args.o - 40) / c.entry_size-size.result < s.x.first +
+    s.x.count) = search rules in
     entry_flag s.x s.r.now s.banks s.alterable c.args.o c.entry_size-size.result c.requires c.entry_size-size.ensures
     (omega (arith, c.type_inv.self)) c.if-o-size.true i.0 i.1
 
