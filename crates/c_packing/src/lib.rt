@@ -8,6 +8,7 @@ ghost use Rattle.capsule_packing_rules.specs.Rules.{sized};
 ghost use Rattle.capsule_packer.specs.Packer.{packed};
 ghost use Rattle.c_reply.specs.Replied.{replied};
 
+use c_reply::reply;
 use capsule_contents::Lending;
 use capsule_packer::pack;
 use capsule_packing_rules::packed_size;
@@ -34,13 +35,7 @@ pub extern "C" fn meanderpeg_capsule_packed_size(
         codes: vendor_codes,
         payload_table,
     };
-    match packed_size(&lending) {
-        Ok(n) => {
-            *size = n;
-            0
-        }
-        Err(why) => why.number(),
-    }
+    reply(packed_size(&lending), size)
 }
 
 // Returns 0 and sets how many bytes were written at the front of `capsule`; or returns the refusal, N50 to N57, and
@@ -70,11 +65,5 @@ pub extern "C" fn meanderpeg_capsule_pack(
         codes: vendor_codes,
         payload_table,
     };
-    match pack(&lending, capsule) {
-        Ok(n) => {
-            *length = n;
-            0
-        }
-        Err(why) => why.number(),
-    }
+    reply(pack(&lending, capsule), length)
 }
