@@ -22,9 +22,9 @@ behind d = boolean_right (correct_boot_in d) && (eqb (entry_size_in d) directory
 abbrev counted : List ℕ → Bool
 counted d = leb 1 (images_in d) && leb (images_in d) image_limit
 
-pub header_images : (d : List ℕ) → header_right d ≡ true → (1 ≤ images_in d) × (images_in d ≤ image_limit)
+pub few_told : (d : List ℕ) → header_right d ≡ true → (1 ≤ images_in d) × (images_in d ≤ image_limit)
 unfolding header_right
-header_images d e =
+few_told d e =
     let v = (both (eqb (version_in d) directory_version) (eqb (array_offset_in d) directory_header_size && (counted d && behind d)) e).1 in
     let o = (both (eqb (array_offset_in d) directory_header_size) (counted d && behind d) v).1 in
     let q = both (leb 1 (images_in d)) (leb (images_in d) image_limit) (both (counted d) (behind d) o).0 in
@@ -40,7 +40,7 @@ unfolding reader_tests
 taken d e =
     let f = no_fault (reader_tests d) (sym e) in
     record {
-      few = (header_images d (not-false (header_right d) f.1.0)).1;
+      few = (few_told d (not-false (header_right d) f.1.0)).1;
       long = eqb-true (length d) (directory_size (images_in d)) (not-false _ f.1.1.0);
     }
 

@@ -59,7 +59,7 @@ fn entries_right(d: &[u8], images: usize) -> bool
 }
 
 // The sister of all that is shown: the refusal, 43 to 46, or none.
-#[tactic(auto, unfolding(crate::specs::Reader::reader_tests, refusal_order::specs::Decide::decide), using(crate::proofs::Taken::header_images))]
+#[tactic(auto, unfolding(crate::specs::Reader::reader_tests, refusal_order::specs::Decide::decide), using(crate::proofs::Taken::few_told))]
 pub fn refusal(d: &[u8]) -> Result<(), Refusal>
     ensures { decision_of result ≡ decide (reader_tests d.now) }
 {

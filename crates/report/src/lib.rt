@@ -10,7 +10,7 @@ use record_copies::{Source, read_record, read_source};
 use record_layout::AREA;
 use refusals::Refusal;
 use report_lines::record_lines;
-use report_text::line;
+use report_text::Text;
 
 // How many bytes hold every report.
 pub const REPORT_LIMIT: usize = 4096;
@@ -30,7 +30,9 @@ fn refused_line(out: &mut [u8], refusal: Refusal) -> usize
     requires { Room 0 (refused_line (number_of refusal)) out.old }
     ensures { Wrote 0 result (refused_line (number_of refusal)) out.old out.new }
 {
-    line(out, 0, b"refused", &[refusal.number()])
+    let mut text = Text::new(out);
+    text.line(b"refused", &[refusal.number()]);
+    text.len()
 }
 
 // Writes the report of an area at the front of `out` and answers how many bytes it has; every byte past it stays. A

@@ -7,4 +7,6 @@ use Rattle.directory_entries.specs.Installed.{installed_entry}
 use Rattle.directory_entries.proofs.put_entries.Given as goal
 
 abbrev pub invariant-loop-i : goal.invariant-loop-i
-invariant-loop-i l = (length l.out ≡ length l.initial.out) × (l.out ≡ put l.initial.out 24 (entries_bytes (up_to l.i (installed_entry l.r l.booted l.words))))
+invariant-loop-i l =
+    (length l.out ≡ length l.initial.out)
+    × (l.out ≡ put l.initial.out 24 (entries_bytes (up_to l.i (installed_entry l.r l.booted l.words))))

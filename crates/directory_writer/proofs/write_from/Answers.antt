@@ -10,14 +10,16 @@ use Rattle.directory_writer.proofs.write_from.Goals as goal
 use Rattle.directory_writer.proofs.write_from.Goals.{In_ok-session}
 
 -- the session, where start-up gives one
-booted : (c : In_ok-session) → (c.args.booted < bank_count c.args.r.now) × (c.in_ok-session.session ≡ started_session c.args.r.now c.args.booted)
+booted : (c : In_ok-session) → (c.args.booted < bank_count c.args.r.now)
+    × (c.in_ok-session.session ≡ started_session c.args.r.now c.args.booted)
 booted c = booted_passed c.args.r.now c.args.booted c.in_ok-session.session (rw c.in_ok-session.was at c.session_from.ensures)
 
 pub returns-in_err-session : goal.returns-in_err-session
 returns-in_err-session c =
     let a = c.args in
     let why : c.from_residual.result ≡ Err c.in_err-session.field-0.0 = search rules in
-    rw why (booted_refused a.r.now a.booted a.words.now a.out.now c.in_err-session.field-0.0 (rw c.in_err-session.was at c.session_from.ensures))
+    rw why
+    (booted_refused a.r.now a.booted a.words.now a.out.now c.in_err-session.field-0.0 (rw c.in_err-session.was at c.session_from.ensures))
 
 pub returns-in_err-admit : goal.returns-in_err-admit
 returns-in_err-admit c =

@@ -15,6 +15,6 @@ pub line-requires : goal.line-requires
 unfolding bank_line
 line-requires c = rw (c.from.ensures, c.state.ensures) c.requires.2
 
-pub returns : goal.returns
+pub returns-clause-wrote : goal.returns-clause-wrote
 unfolding bank_line
-returns c = rw (← c.state.ensures, ← c.from.ensures) c.line.ensures
+returns-clause-wrote c = rw (← c.state.ensures, ← c.from.ensures) c.line.ensures.wrote

@@ -6,8 +6,9 @@ use Rattle.record_layout.specs.Layout.{active, previous, size}
 use Rattle.report_text.specs.Text.{ascii, line}
 use Rattle.report_lines.specs.Lines.{head_lines}
 use Rattle.report_text.specs.Wrote.{Room, Wrote}
-use Rattle.report_text.proofs.Writing.{wrote_then, room_first, room_then}
+use Rattle.report_text.proofs.Writing.{and_then, room_first, room_left}
 use Rattle.report_lines.proofs.head_lines.Goals as goal
+use Rattle.report_lines.proofs.head_lines.Goals.{After-line}
 
 -- the three lines
 abbrev recordLine : ℕ → List ℕ → List ℕ
@@ -25,47 +26,50 @@ namedLines r = activeLine r ++ previousLine r
 pub size-requires : goal.size-requires
 size-requires c = sound_long c.args.r.now c.requires.0
 
-pub line-n-requires : goal.line-n-requires
+pub line-requires : goal.line-requires
 unfolding head_lines
-line-n-requires c =
+line-requires c =
     let a = c.args in
-    rw c.size.ensures (room_first 0 (recordLine a.copy a.r.now) (namedLines a.r.now) a.out.now c.requires.1)
+    let r = a.r.now in
+    rw c.size.ensures (room_first a.text.now.len (recordLine a.copy r) (namedLines r) a.text.now.out.now c.requires.1)
 
 pub active-requires : goal.active-requires
 active-requires c = sound_long c.args.r.now c.requires.0
 
-pub line-m-requires : goal.line-m-requires
+-- the first line is written, and there is room behind it
+first : (c : After-line) → let t = c.args.text.now in let u = c.line.new.self in
+    Wrote t.len u.len (recordLine c.args.copy c.args.r.now) t.out.now u.out.now
+first c = rw (← c.size.ensures) c.line.ensures.wrote
+
+behind : (c : After-line) → let u = c.line.new.self in Room u.len (namedLines c.args.r.now) u.out.now
 unfolding head_lines
-line-m-requires c =
-    let first : Wrote 0 c.line-n.result (recordLine c.args.copy c.args.r.now) c.args.out.now c.line-n.new.out = rw (← c.size.ensures) c.line-n.ensures in
-    let behind-first : Room c.line-n.result (namedLines c.args.r.now) c.line-n.new.out = let a = c.args in
-    room_then 0 c.line-n.result (recordLine a.copy a.r.now) (namedLines a.r.now) a.out.now c.line-n.new.out c.requires.1 first in
-    let a = c.args in
-    rw c.active.ensures (room_first c.line-n.result (activeLine a.r.now) (previousLine a.r.now) c.line-n.new.out behind-first)
+behind c = room_left (namedLines c.args.r.now) c.requires.1 (first c)
+
+pub line-requires-2 : goal.line-requires-2
+line-requires-2 c =
+    let r = c.args.r.now in
+    let u = c.line.new.self in
+    rw c.active.ensures (room_first u.len (activeLine r) (previousLine r) u.out.now (behind (goal.at.line-requires-2 c).After-line))
 
 pub previous-requires : goal.previous-requires
 previous-requires c = sound_long c.args.r.now c.requires.0
 
-pub line-requires : goal.line-requires
-unfolding head_lines
-line-requires c =
-    let first : Wrote 0 c.line-n.result (recordLine c.args.copy c.args.r.now) c.args.out.now c.line-n.new.out = rw (← c.size.ensures) c.line-n.ensures in
-    let behind-first : Room c.line-n.result (namedLines c.args.r.now) c.line-n.new.out = let a = c.args in
-    room_then 0 c.line-n.result (recordLine a.copy a.r.now) (namedLines a.r.now) a.out.now c.line-n.new.out c.requires.1 first in
-    let a = c.args in
-    rw c.previous.ensures
-    (room_then c.line-n.result c.line-m.result (activeLine a.r.now) (previousLine a.r.now) c.line-n.new.out c.line-m.new.out
-    behind-first (rw (← c.active.ensures) c.line-m.ensures))
+pub line-requires-3 : goal.line-requires-3
+line-requires-3 c =
+    let u = c.line.new.self in
+    let v = c.line-2.new.self in
+    let r = c.args.r.now in
+    let second : Wrote u.len v.len (activeLine r) u.out.now v.out.now = rw (← c.active.ensures) c.line-2.ensures.wrote in
+    rw c.previous.ensures (room_left (previousLine r) (behind (goal.at.line-requires-3 c).After-line) second)
 
-pub returns : goal.returns
+pub returns-clause-wrote : goal.returns-clause-wrote
 unfolding head_lines
-returns c =
-    let first : Wrote 0 c.line-n.result (recordLine c.args.copy c.args.r.now) c.args.out.now c.line-n.new.out = rw (← c.size.ensures) c.line-n.ensures in
-    let behind-first : Room c.line-n.result (namedLines c.args.r.now) c.line-n.new.out = let a = c.args in
-    room_then 0 c.line-n.result (recordLine a.copy a.r.now) (namedLines a.r.now) a.out.now c.line-n.new.out c.requires.1 first in
-    let a = c.args in
-    wrote_then 0 c.line-n.result c.line.result (recordLine a.copy a.r.now) (namedLines a.r.now) a.out.now c.line-n.new.out
-    c.line.new.out c.requires.1 first
-    (wrote_then c.line-n.result c.line-m.result c.line.result (activeLine a.r.now) (previousLine a.r.now) c.line-n.new.out
-    c.line-m.new.out c.line.new.out behind-first (rw (← c.active.ensures) c.line-m.ensures)
-    (rw (← c.previous.ensures) c.line.ensures))
+returns-clause-wrote c =
+    let l = (goal.at.returns-clause-wrote c).After-line in
+    let u = c.line.new.self in
+    let v = c.line-2.new.self in
+    let w = c.line-3.new.self in
+    let r = c.args.r.now in
+    let second : Wrote u.len v.len (activeLine r) u.out.now v.out.now = rw (← c.active.ensures) c.line-2.ensures.wrote in
+    let third : Wrote v.len w.len (previousLine r) v.out.now w.out.now = rw (← c.previous.ensures) c.line-3.ensures.wrote in
+    and_then c.requires.1 (first l) (and_then (behind l) second third)

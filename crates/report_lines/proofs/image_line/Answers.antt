@@ -9,7 +9,8 @@ pub bank_count-requires : goal.bank_count-requires
 bank_count-requires c = sound_long c.args.r.now c.requires.0
 
 pub accepted_word-flag-requires : goal.accepted_word-flag-requires
-accepted_word-flag-requires c = (rw c.bank_count.ensures (sound_sized c.args.r.now c.requires.0), c.requires.1, omega (arith, c.bank_count.ensures, c.requires.2))
+accepted_word-flag-requires c =
+    (rw c.bank_count.ensures (sound_sized c.args.r.now c.requires.0), c.requires.1, omega (arith, c.bank_count.ensures, c.requires.2))
 
 pub overflow_cast-i : goal.overflow_cast-i
 overflow_cast-i c = omega (arith, few_images c.args.r.now c.requires.0, few_banks c.args.r.now c.requires.0)
@@ -21,6 +22,6 @@ pub line-requires : goal.line-requires
 unfolding image_line
 line-requires c = rw c.accepted_word-flag.ensures c.requires.3
 
-pub returns : goal.returns
+pub returns-clause-wrote : goal.returns-clause-wrote
 unfolding image_line
-returns c = rw (← c.accepted_word-flag.ensures) c.line.ensures
+returns-clause-wrote c = rw (← c.accepted_word-flag.ensures) c.line.ensures.wrote

@@ -1,12 +1,14 @@
 -- `record_lines` meets its contract. Assumes nothing.
 use Prim.Native.Nat.{ℕ}
+use Rattle.std.proofs.Common.{rules}
 use mathlib.Core.List.{List, ◌++◌}
 use Rattle.record_layout.specs.Layout.{bank_count, image_count}
 use Rattle.report_text.specs.Text.{ascending}
 use Rattle.report_lines.specs.Lines.{bank_line, image_lines, head_lines, record_lines}
-use Rattle.report_text.specs.Wrote.{Room}
-use Rattle.report_text.proofs.Writing.{wrote_then, room_first, room_then}
+use Rattle.report_text.specs.Wrote.{Room, Wrote}
+use Rattle.report_text.proofs.Writing.{and_then, room_first, room_left}
 use Rattle.report_lines.proofs.record_lines.Goals as goal
+use Rattle.report_lines.proofs.record_lines.Goals.{After-head_lines}
 
 -- the lines behind the first three
 abbrev banks : List ℕ → List ℕ
@@ -18,38 +20,40 @@ images r = ascending (image_count r) (image_lines r)
 abbrev others : List ℕ → List ℕ
 others r = banks r ++ images r
 
-pub head_lines-n-requires : goal.head_lines-n-requires
+pub head_lines-requires : goal.head_lines-requires
 unfolding record_lines
-head_lines-n-requires c =
+head_lines-requires c =
     let a = c.args in
-    (c.requires.0, room_first 0 (head_lines a.copy a.r.now) (others a.r.now) a.out.now c.requires.1)
+    let r = a.r.now in
+    let e = c.new-text.ensures.empty in
+    rw (e.0, e.1) (c.requires.0, room_first 0 (head_lines a.copy r) (others r) a.out.now c.requires.1)
 
-pub bank_lines-m-requires : goal.bank_lines-m-requires
+-- the first lines are written, and there is room behind them
+head : (c : After-head_lines) → let t = c.head_lines.new.text in
+    Wrote 0 t.len (head_lines c.args.copy c.args.r.now) c.args.out.now t.out.now
+head c = let e = c.new-text.ensures.empty in rw (e.0, e.1) at c.head_lines.ensures.wrote
+
+behind : (c : After-head_lines) → let t = c.head_lines.new.text in Room t.len (others c.args.r.now) t.out.now
 unfolding record_lines
-bank_lines-m-requires c =
-    let behind-head : Room c.head_lines-n.result (others c.args.r.now) c.head_lines-n.new.out = let a = c.args in
-    room_then 0 c.head_lines-n.result (head_lines a.copy a.r.now) (others a.r.now) a.out.now c.head_lines-n.new.out c.requires.1 c.head_lines-n.ensures in
+behind c = room_left (others c.args.r.now) c.requires.1 (head c)
+
+pub bank_lines-requires : goal.bank_lines-requires
+bank_lines-requires c =
     let r = c.args.r.now in
-    (c.requires.0, room_first c.head_lines-n.result (banks r) (images r) c.head_lines-n.new.out behind-head)
+    let t = c.head_lines.new.text in
+    (c.requires.0, room_first t.len (banks r) (images r) t.out.now (behind (goal.at.bank_lines-requires c).After-head_lines))
 
 pub all_images-requires : goal.all_images-requires
-unfolding record_lines
 all_images-requires c =
-    let behind-head : Room c.head_lines-n.result (others c.args.r.now) c.head_lines-n.new.out = let a = c.args in
-    room_then 0 c.head_lines-n.result (head_lines a.copy a.r.now) (others a.r.now) a.out.now c.head_lines-n.new.out c.requires.1 c.head_lines-n.ensures in
-    let r = c.args.r.now in (
-      c.requires.0,
-      room_then c.head_lines-n.result c.bank_lines-m.result (banks r) (images r) c.head_lines-n.new.out c.bank_lines-m.new.out behind-head c.bank_lines-m.ensures,
-    )
+    let r = c.args.r.now in
+    (c.requires.0, room_left (images r) (behind (goal.at.all_images-requires c).After-head_lines) c.bank_lines.ensures.wrote)
 
 pub returns : goal.returns
 unfolding record_lines
 returns c =
-    let behind-head : Room c.head_lines-n.result (others c.args.r.now) c.head_lines-n.new.out = let a = c.args in
-    room_then 0 c.head_lines-n.result (head_lines a.copy a.r.now) (others a.r.now) a.out.now c.head_lines-n.new.out c.requires.1 c.head_lines-n.ensures in
+    let l = (goal.at.returns c).After-head_lines in
     let a = c.args in
-    let r = a.r.now in
-    wrote_then 0 c.head_lines-n.result c.all_images.result (head_lines a.copy r) (others r) a.out.now c.head_lines-n.new.out
-    c.all_images.new.out c.requires.1 c.head_lines-n.ensures
-    (wrote_then c.head_lines-n.result c.bank_lines-m.result c.all_images.result (banks r) (images r) c.head_lines-n.new.out
-    c.bank_lines-m.new.out c.all_images.new.out behind-head c.bank_lines-m.ensures c.all_images.ensures)
+    let last = c.all_images.new.text in
+    let whole : Wrote 0 c.len.result (record_lines a.copy a.r.now) a.out.now last.out.now =
+    rw c.len.ensures (and_then c.requires.1 (head l) (and_then (behind l) c.bank_lines.ensures.wrote c.all_images.ensures.wrote)) in
+    search (rules, whole)
