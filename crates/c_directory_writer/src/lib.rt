@@ -6,6 +6,9 @@ ghost use Rattle.std.specs.Prelude.{◌≡◌};
 ghost use Rattle.directory_writer.specs.Writer.{written};
 ghost use Rattle.c_reply.specs.Replied.{replied};
 
+use c_reply::reply;
+use directory_writer::write_directory;
+
 // Returns 0 and sets how many bytes were written at the front of `directory`; or returns the refusal, N20, N21, N28 or
 // N40 to N42, and alters nothing (X5, I8). A reader wants exactly so many bytes.
 #[unsafe(no_mangle)]
@@ -20,11 +23,5 @@ pub extern "C" fn meanderpeg_directory_write(
         (written area.now booted words.now directory.old).0 length.old)
         × (directory.new ≡ (written area.now booted words.now directory.old).1) }
 {
-    match directory_writer::write_directory(area, booted, words, directory) {
-        Ok(n) => {
-            *length = n;
-            0
-        }
-        Err(why) => why.number(),
-    }
+    reply(write_directory(area, booted, words, directory), length)
 }

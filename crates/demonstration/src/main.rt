@@ -40,10 +40,14 @@ fn update(
 fn updates(rt: &impl Print, a: &mut [u8], guid: [u8; 16]) -> io::Result<()> {
     println!(rt; "\nAn update. Power fails after 5 stores of its last call.")?;
     update(rt, a, 0, guid, 5)?;
-    println!(rt; "\nPower is back. Copy 0 is half written: the old record is read, from copy 1, and repaired.")?;
+    println!(rt;
+        "\nPower is back. Copy 0 is half written: the old record is read, from copy 1, and repaired."
+    )?;
     started(rt, a, 0)?;
     repaired(rt, a)?;
-    println!(rt; "\nThe same update again, with all of its stores. The next start is in the new bank.")?;
+    println!(rt;
+        "\nThe same update again, with all of its stores. The next start is in the new bank."
+    )?;
     update(rt, a, 0, guid, ALL)?;
     started(rt, a, 1)?;
     Ok(())

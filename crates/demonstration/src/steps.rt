@@ -1,7 +1,6 @@
 // One step of an update: the call, its stores done, and the line that is printed of it.
 use refusals::Refusal;
-use std::fmt;
-use std::io;
+use std::{fmt, io};
 use update_session::Session;
 
 // The calls of an update; Commit's is of the image with that type GUID, and accepts it.

@@ -68,7 +68,7 @@ module _ (active previous states : ℕ) (r : List ℕ) (long : 40 ≤ length r) 
 module _ (s : List ℕ) (banks images first b flag : ℕ) (long : length s ≡ record_size banks images) (has : le 1 s 32 ≡ banks) (below : b <
     banks) where
   module _ (n : ℕ) (l : length (flagged n first b flag s) ≡ length s) (h : le 1 (flagged n first b flag s) 32 ≡ le 1 s 32) (fits : first
-    + suc n ≤ images) where
+      + suc n ≤ images) where
     -- the next one stands at its place
     next_is : flagged (suc n) first b flag s ≡ put (flagged n first b flag s) (accepted_at banks (first + n) b) (bytes 4 flag)
     unfolding flagged set_accepted le

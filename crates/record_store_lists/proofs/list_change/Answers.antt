@@ -38,8 +38,12 @@ returns c =
     let l2 = c.put_copy-2.new.list in
     let one = plan 0 (copy0 A) N in
     let two = plan copy_size (copy1 A) N in
-    let first : Added 0 l1.pairs one a.out.now l1.out.now = rw (c.new-list.ensures.empty.0, c.new-list.ensures.empty.1, n.ensures.0,
-    n.ensures.1) at c.put_copy.ensures.added in
+    let first : Added 0 l1.pairs one a.out.now l1.out.now = rw (
+      c.new-list.ensures.empty.0,
+      c.new-list.ensures.empty.1,
+      n.ensures.0,
+      n.ensures.1,
+    ) at c.put_copy.ensures.added in
     let second : Added l1.pairs l2.pairs two l1.out.now l2.out.now = rw (n.ensures.0, n.ensures.1) at c.put_copy-2.ensures.added in
     let listed : AtFront c.pairs.result (change_stores A (record_with a.x (record_of (copy0 A)))) a.out.now l2.out.now =
     rw (stores_both a.x A R c.held_record.ensures.0 c.requires.0.equal told, c.pairs.ensures)

@@ -35,8 +35,14 @@ returns c =
       | in-Copy1 w ↦ rw w.base-is (repair_copy0 A cc)
     ] in
     let listed : Added 0 l1.pairs ss a.out.now l1.out.now =
-    rw (c.new-list.ensures.empty.0, c.new-list.ensures.empty.1, n.ensures.0, n.ensures.1, c.unaltered.ensures.stays,
-    c.read_record-r.ensures.0) at c.put_copy.ensures.added in
+    rw (
+      c.new-list.ensures.empty.0,
+      c.new-list.ensures.empty.1,
+      n.ensures.0,
+      n.ensures.1,
+      c.unaltered.ensures.stays,
+      c.read_record-r.ensures.0,
+    ) at c.put_copy.ensures.added in
     let front : AtFront c.pairs.result (repair_stores A) a.out.now l1.out.now =
     rw (stores, c.pairs.ensures) (at_front l1.pairs ss a.out.now l1.out.now listed) in
     search (rules, front)
