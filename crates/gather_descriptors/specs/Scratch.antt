@@ -26,7 +26,7 @@ pub record BlockIs (w : List ℕ) (B d : ℕ) (r : Range ℕ) : Type 0 where
   pub starts : B + r.start ≡ address_of w B d
   pub ends : r.end ≡ r.start + length_of w B d
 
--- so do all of ds
+-- each of the descriptors ds and its block, if it has one, lie in the window
 abbrev pub AllReadable : List ℕ → ℕ → List ℕ → Type 0
 AllReadable w B ds = (i : ℕ) → i < length ds → Readable w B (get_or ds i 0)
 

@@ -25,8 +25,8 @@ pub struct Listed {
 }
 
 // Reads on with the descriptor at the offset `at`: a run of data descriptors, up to a jump or the end.
-// `left` descriptors may still be read, so 256 - left addresses stand in `ds` already. It is no loop, since the customer
-// names this form: the reader of runs calls that of jumps, and back, and the descriptors still allowed fall.
+// `left` descriptors may still be read, so 256 - left addresses stand in `ds` already. It is no loop, since the
+// customer names this form: the reader of runs calls that of jumps, and back, and the descriptors still allowed fall.
 #[cycle(jump_run)]
 fn run(
     w: &[u8],

@@ -1,6 +1,6 @@
 // The memory window (G1): what lies in it. Addresses can reach 2^64, so the code goes by offsets in the window; the
 // definitions go by addresses.
-// The bytes and their base stay two parameters (d): the copy wants the bytes as `&mut [u8]`, so `gather` would have to
+// The bytes and their base stay two parameters: the copy wants the bytes as `&mut [u8]`, so `gather` would have to
 // build a struct of both anew for each reader that it calls, and the copy for each block.
 #![tactic(auto)]
 

@@ -1,4 +1,5 @@
 // Bytes of the memory: numbers in it, runs of it, and digests of them. What lies outside reads as 0 and is not written.
+
 // The byte at `at`.
 pub fn byte(s: &[u8], at: usize) -> u8 {
     s.get(at).copied().unwrap_or(0)

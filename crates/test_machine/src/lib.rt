@@ -290,6 +290,7 @@ fn function(rt: &impl Print, w: &mut [u64; 256], m: &mut [u8], c: u8) -> io::Res
             let n = pop(w);
             print!(rt; "{n:08x}")?;
         }
+        // no letter: it ends the text
         1 => return Ok(Turn::Ended),
         _ => return Ok(Turn::Asked(c)),
     }

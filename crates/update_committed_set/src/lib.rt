@@ -19,8 +19,8 @@ pub fn staged(r: &[u8], bank: u32, set: u32) -> bool
     requires { sound r.now ≡ true }
     ensures { result ≡ staged_fits bank set r.now }
 {
-    // no bit at or past the image count: so many zeros stand at the set's top that with the images they make its width,
-    // or more
+    // the last: no bit at or past the image count; so many zeros stand at the set's top that with the images they make
+    // its width, or more
     bank as usize == update_bank(r)
         && state(r, bank as usize) == INVALID
         && SET_BITS <= image_count(r) as u32 + u32::leading_zeros(set)

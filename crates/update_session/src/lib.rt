@@ -1,8 +1,8 @@
-// The session, the answer of the calls, and the six calls (S1, S5 to S18). Each call tests in the order of N110: what is
-// tested for every session first, once and before the call looks at which session it is, then its own; a refusal hands
-// the session back as it was, with no list.
+// The session, the answer of the calls, and the six calls (S1, S5 to S18). Each call tests in the order of N110: what
+// is tested for every session first, once and before the call looks at which session it is, then its own; a refusal
+// hands the session back as it was, with no list.
 // The customer names the form: the calls take the session by value and hand the next one back, in a struct beside the
-// verdict and the count of stores. Below each stands a function that moves a session on, or refuses and leaves it.
+// verdict and the count of stores. Under each call lies its `try_`, which moves a session on, or refuses and leaves it.
 #![tactic(auto)]
 
 ghost use Rattle.std.specs.Prelude.{◌≡◌, true, ◌<◌};
