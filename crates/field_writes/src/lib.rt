@@ -1,6 +1,6 @@
 // Numbers of 16, 32 and 64 bits, little-endian (N101), GUIDs, and parts of another slice, put into byte slices: numbers
 // and GUIDs as crate fields reads them. These functions serve the crates above, which have tested where a field stands;
-// each asks that of its caller.
+// each asks that of its caller. One for each width, as std's to_le_bytes: see crate fields.
 #![tactic(auto)]
 
 ghost use Rattle.std.specs.Prelude.{◌≡◌, ◌+◌, ◌*◌, ◌≤◌, length};

@@ -17,6 +17,7 @@ pub fn fill<R: Read>(reader: &mut R, buf: &mut [u8]) -> (usize, io::Result<()>)
     ensures bytes { Consumes (R.remaining reader.old) (R.remaining reader.new) (take result.0 buf.new) }
     ensures whole { OnOk result.1 (result.0 < length buf.new → IsAtEnd (R.remaining reader.new)) }
 {
+    // no index is counted: each read says how much it was
     let mut done = 0;
     while done < buf.len() {
         match reader.read(&mut buf[done..]) {

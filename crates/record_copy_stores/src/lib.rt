@@ -30,8 +30,8 @@ fn put_words(c: &[u8], base: u32, new: &Altered, list: &mut StoreList)
     }
 }
 
-// Lists the stores that put the new record into the copy that stands at base, behind those that the list has. crc is the
-// new record's.
+// Lists the stores that put the new record into the copy that stands at base, behind those that the list has. crc is
+// the new record's.
 pub fn put_copy(area: &[u8], base: usize, new: &Altered, crc: u32, list: &mut StoreList)
     requires { (crc ≡ crc_of (altered_by new.now.x new.now.r.now)) × (length area.now ≡ area_size) × (base ≤ copy_size)
         × (list.old.pairs ≤ copy_pairs) × (store_numbers ≤ length list.old.out.now) }

@@ -91,7 +91,7 @@ pub fn record_at(area: &[u8], base: usize) -> &[u8]
     record_in(&area[base..base + COPY])
 }
 
-// The header's fields by name: each function names one field, so that no caller names an offset.
+// The header's fields by name: each function names one field, so that who asks for one of these names no offset.
 pub fn version(r: &[u8]) -> u32
     requires { header_size ≤ length r.now }
     ensures { result ≡ version r.now }

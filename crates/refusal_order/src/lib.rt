@@ -6,7 +6,7 @@ ghost use Rattle.refusal_order.specs.Decide.{verdict_number};
 
 use refusals::Refusal;
 
-// The refusal's number, or 0 for none.
+// The refusal's number, or 0 for none (N104).
 pub fn number(verdict: Result<(), Refusal>) -> u32
     ensures { result ≡ verdict_number verdict }
 {

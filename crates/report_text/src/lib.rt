@@ -57,8 +57,8 @@ impl<'a> Text<'a> {
         self.len = end;
     }
 
-    // A number's decimal digits: those of a tenth of it, then the last. By hand: `write!` states the bytes that it writes
-    // for a String alone, which wants a heap.
+    // A number's decimal digits: those of a tenth of it, then the last. By hand: `write!` states the bytes that it
+    // writes for a String alone, which wants a heap.
     fn put_decimal(&mut self, x: u32)
         requires { Room self.old.len (decimal x) self.old.out.now }
         ensures same_reference { self.new.out.ghost_name ≡ self.old.out.ghost_name }

@@ -31,7 +31,7 @@ fn low(n: u64) -> u32 {
     (n % 4294967296) as u32
 }
 
-// The call of that number, start-up (its booted bank is the request) and repair among them.
+// The call of that number, as scripts give it, start-up (its booted bank is the request) and repair among them.
 fn call(
     which: u64,
     session: SessionNumbers,
