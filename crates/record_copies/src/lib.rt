@@ -8,7 +8,7 @@ ghost use Rattle.record_copies.specs.Copies.{source_of, record_read, records_equ
 ghost use Rattle.record_copies.specs.declared.Source.TheVariants.{Copy0};
 
 use record_layout::{COPY, record_at};
-use record_soundness::sound_record;
+use record_soundness::sound_copy;
 
 // A copy that may be read.
 #[derive(Clone, Copy, Debug, PartialEq, Eq)]
@@ -18,11 +18,12 @@ pub enum Source {
 }
 
 // Whether the copy that stands at base is sound.
+#[tactic(auto, using(record_layout::proofs::Copies::copy_is))]
 pub fn sound_at(area: &[u8], base: usize) -> bool
     requires { (length area.now ≡ area_size) × (base ≤ copy_size) }
     ensures { result ≡ sound_copy (copy_at base area.now) }
 {
-    sound_record(record_at(area, base))
+    sound_copy(&area[base..base + COPY])
 }
 
 // The copy that is read: copy 0 if sound, else copy 1 if sound, else none.

@@ -24,6 +24,14 @@ impl<'a> StoreList<'a> {
         StoreList { out, pairs: 0 }
     }
 
+    // The list of so many pairs that stand at the front of `out` already.
+    pub fn behind(out: &'a mut [u32], pairs: usize) -> Self
+        ensures same_reference { result.out.ghost_name ≡ out.entry.ghost_name }
+        ensures as_it_stands { (result.out.now ≡ out.old) × (result.pairs ≡ pairs) }
+    {
+        StoreList { out, pairs }
+    }
+
     // How many pairs it has.
     pub fn pairs(&self) -> usize
         ensures { result ≡ self.now.pairs }
