@@ -37,6 +37,6 @@ after (Err r) next = Err r
 unfoldable pub item_verdict : List ℕ → ℕ → Verdict
 item_verdict s k = after (verdict s) (unless (ltb k (items (body s))) NoItem (Ok tt))
 
--- what the sister entry gives, 0 for none (C23)
+-- the number of what the sister entry gives, 0 for none (C23)
 abbrev pub refusal_number : List ℕ → ℕ → ℕ
 refusal_number s k = verdict_number (item_verdict s k)
