@@ -1,7 +1,7 @@
--- Laws of the header's sizes, flags and GUID. Assumes nothing.
+-- Laws of the header's sizes and flags. Assumes nothing.
 use mathlib.Core.Path.{◌≡◌, refl}
 use mathlib.Core.Bool.{Bool, true, false, not, ◌&&◌, ◌||◌}
-use mathlib.Core.List.{List, [], ◌∷◌}
+use mathlib.Core.List.{List}
 use mathlib.Core.Logic.{⊎_elim}
 use Prim.Native.Nat.{ℕ, ◌+◌, ◌-◌, ◌*◌, ◌/◌, ◌%◌, ◌≤◌, ◌<◌}
 use native.Mathlib.Omega.{arith}
@@ -9,10 +9,8 @@ use borrow.Author.Tests.{leb-true, eqb-true, ne_eqb}
 use lib.Dec.{leb, eqb}
 use lib.ListN.{length, drop, take, length-drop}
 use lib.Seq.{take_all}
-use lib.Pointwise.{pointwise}
 use Rattle.std.specs.Prelude.{bit_and}
 use Rattle.std.proofs.lemmas.Nat.Bits.{and_high}
-use Rattle.fields.specs.Guid.{same}
 use Rattle.fields.proofs.Tests.{both, le_or_lt}
 use Rattle.capsule_header.specs.Header.{header_size, capsule_image_size, sizes_right, is_set, reset, persist, flags_right, body}
 
@@ -40,14 +38,6 @@ flags_by_masks f =
     go : (t : Bool) → (not (not t) || not (eqb (bit_and f persist) 0)) ≡ (t || not (eqb (bit_and f persist) 0))
     go true = refl
     go false = refl
-
--- two slices compared
-pub bytes_same : (xs ys : List ℕ) → pointwise eqb xs ys ≡ same xs ys
-unfolding same
-bytes_same [] [] = refl
-bytes_same [] (y ∷ ys) = refl
-bytes_same (x ∷ xs) [] = refl
-bytes_same (x ∷ xs) (y ∷ ys) = rw (bytes_same xs ys)
 
 module _ (s : List ℕ) (right : sizes_right s ≡ true) where
   -- the header ends in the capsule

@@ -38,7 +38,7 @@ pub fn guid_right(s: &[u8]) -> bool
     requires { 28 ≤ length s.now }
     ensures { result ≡ guid_right s.now }
 {
-    s[..16] == FMP_GUID[..]
+    fields::same_guid(s, 0, &FMP_GUID, 0)
 }
 
 // The body.

@@ -55,5 +55,7 @@ pub fn write_part(s: &mut [u8], at: usize, t: &[u8], from: usize, n: usize)
     requires { (at + n ≤ length s.old) × (from + n ≤ length t.now) }
     ensures { s.new ≡ put s.old at (part t.now from (from + n)) }
 {
-    s[at..at + n].copy_from_slice(&t[from..from + n]);
+    for i in 0..n {
+        s[at + i] = t[from + i];
+    }
 }

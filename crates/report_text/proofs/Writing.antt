@@ -5,12 +5,11 @@ use Prim.Native.Nat.{ℕ, ◌+◌, ◌≤◌, ◌<◌}
 use native.Mathlib.Nat.{add-zero}
 use native.Mathlib.Omega.{arith}
 use native.Mathlib.Numerals.{add-one}
-use borrow.Rule.Slice.PartMut.{put_mid}
 use lib.ListN.{length, drop, set, get_or, length-set, length-append, take-append-drop}
 use lib.Seq.{drop-cons}
 use Rattle.std.proofs.lemmas.List.{drop_all}
 use Rattle.fields.specs.Number.{put}
-use Rattle.fields.proofs.Put.{put_sets, put_more, put_length, put_mid_put}
+use Rattle.fields.proofs.Put.{put_sets, put_more}
 use Rattle.report_text.specs.Text.{tab, line_feed, decimal, numbers}
 use Rattle.report_text.specs.Wrote.{Room, Wrote}
 
@@ -50,18 +49,15 @@ and_then {k} {m} {n} {t} {u} {a} {b} {c} h p q = wrote_then k m n t u a b c h p 
 pub room_left : {k m : ℕ} {t a b : List ℕ} (u : List ℕ) → Room k (t ++ u) a → Wrote k m t a b → Room m u b
 room_left {k} {m} {t} {a} {b} u h p = room_then k m t u a b h p
 
--- a word, copied whole: n is its length, as the copy has it
-pub wrote_word : (k n : ℕ) (word out : List ℕ) {copied : List ℕ} → n ≡ length word → Room k word out → copied ≡ word
-    → Wrote k (k + length word) word out (put_mid k n out copied)
-wrote_word k n word out {copied} e h c =
-    let p : put_mid k n out copied ≡ put out k word = rw c (put_mid_put out k n word (sym e)) in
-    record { count = refl; kept = rw p (put_length out k word h); is = p }
-
 -- ---- a loop that writes a text piece by piece: what is left of it fits, and with it the whole is written from k on
 pub record Left (k n : ℕ) (left whole before out : List ℕ) : Type 0 where
   pub kept : length out ≡ length before
   pub room : Room n left out
   pub ends : (m : ℕ) (last : List ℕ) → Wrote n m left out last → Wrote k m whole before last
+
+-- at its start
+pub left_all : {k : ℕ} {t a : List ℕ} → Room k t a → Left k (k + 0) t t a a
+left_all {k} h = rw add-zero (record { kept = refl; room = h; ends = λ m last q. q })
 
 pub left_behind : {k n : ℕ} {t a b : List ℕ} (u : List ℕ) → Room k (t ++ u) a → Wrote k n t a b → Left k n u (t ++ u) a b
 left_behind {k} {n} {t} {a} {b} u h p = record { kept = p.kept; room = room_left u h p; ends = λ m last q. and_then h p q }
@@ -78,6 +74,10 @@ module _ {k n : ℕ} {left whole before out : List ℕ} (p : Left k n left whole
         room = room_left u h q;
         ends = λ j last w. p.ends j last (rw e (and_then h q w));
       }
+
+-- the bytes of a word from i on: the one at i, and those behind it
+pub word_next : (word : List ℕ) (i : ℕ) → i < length word → drop i word ≡ (get_or word i 0 ∷ []) ++ drop (i + 1) word
+word_next word i h = rw (drop-cons word i 0 h, add-one)
 
 -- the numbers from i on: the one at i, and those behind it
 pub numbers_next : (ns : List ℕ) (i : ℕ) → i < length ns → numbers (drop i ns) ≡ (tab ∷ decimal (get_or ns i 0)) ++ numbers (drop (i + 1) ns)

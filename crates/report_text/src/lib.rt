@@ -52,9 +52,10 @@ impl<'a> Text<'a> {
         ensures same_reference { self.new.out.ghost_name ≡ self.old.out.ghost_name }
         ensures wrote { Wrote self.old.len self.new.len (word.now) self.old.out.now self.new.out.now }
     {
-        let end = self.len + word.len();
-        self.out[self.len..end].copy_from_slice(word);
-        self.len = end;
+        for i in 0..word.len() {
+            self.out[self.len + i] = word[i];
+        }
+        self.len += word.len();
     }
 
     // A number's decimal digits: those of a tenth of it, then the last. By hand: `write!` states the bytes that it
