@@ -50,7 +50,8 @@ pub fn write_words(s: &mut [u8], at: usize, words: &[u32])
     }
 }
 
-// Puts the n bytes of t from `from` on at `at`.
+// Puts the n bytes of t from `from` on at `at`. Byte by byte: `copy_from_slice` of a length that isn't a constant asks
+// the linker for memmove.
 pub fn write_part(s: &mut [u8], at: usize, t: &[u8], from: usize, n: usize)
     requires { (at + n ≤ length s.old) × (from + n ≤ length t.now) }
     ensures { s.new ≡ put s.old at (part t.now from (from + n)) }

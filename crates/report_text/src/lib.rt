@@ -46,7 +46,7 @@ impl<'a> Text<'a> {
         self.len += 1;
     }
 
-    // A word.
+    // A word. Byte by byte, as crate field_writes copies a part.
     fn put_word(&mut self, word: &[u8])
         requires { Room self.old.len (word.now) self.old.out.now }
         ensures same_reference { self.new.out.ghost_name ≡ self.old.out.ghost_name }
