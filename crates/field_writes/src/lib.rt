@@ -8,6 +8,8 @@ ghost use Rattle.fields.specs.Number.{bytes, put, words_bytes};
 ghost use Rattle.fields.specs.Guid.{guid};
 ghost use Rattle.fields.specs.Part.{part};
 
+use fields::read64;
+
 // Puts the 16-bit number v at `at`.
 pub fn write16(s: &mut [u8], at: usize, v: u16)
     requires { at + 2 ≤ length s.old }
@@ -32,12 +34,14 @@ pub fn write64(s: &mut [u8], at: usize, v: u64)
     s[at..at + 8].copy_from_slice(&v.to_le_bytes());
 }
 
-// Puts the GUID that stands at `from` in t at `at`.
+// Puts the GUID that stands at `from` in t at `at`, as two numbers: where accesses are aligned, `copy_from_slice` of 16
+// bytes asks the linker for memmove.
 pub fn write_guid(s: &mut [u8], at: usize, t: &[u8], from: usize)
     requires { (at + 16 ≤ length s.old) × (from + 16 ≤ length t.now) }
     ensures { s.new ≡ put s.old at (guid t.now from) }
 {
-    s[at..at + 16].copy_from_slice(&t[from..from + 16]);
+    write64(s, at, read64(t, from));
+    write64(s, at + 8, read64(t, from + 8));
 }
 
 // Puts 32-bit numbers at `at`, one behind another.
