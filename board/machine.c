@@ -9,16 +9,6 @@ void *memcpy(void *to, const void *from, size_t length) {
     return to;
 }
 
-void *memmove(void *to, const void *from, size_t length) {
-    volatile uint8_t *at = to;
-    const uint8_t *of = from;
-    if (at <= of)
-        for (size_t i = 0; i < length; i++) at[i] = of[i];
-    else
-        for (size_t i = length; i > 0; i--) at[i - 1] = of[i - 1];
-    return to;
-}
-
 void *memset(void *to, int byte, size_t length) {
     for (size_t i = 0; i < length; i++) ((volatile uint8_t *)to)[i] = (uint8_t)byte;
     return to;

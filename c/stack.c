@@ -177,8 +177,6 @@ void trapped(uint64_t syndrome, uint64_t address) {
 
 static size_t touched_on(int paint, void (*call)(void)) {
     memset(stack, paint, sizeof stack);
-    /* the first call of a function in a shared library goes through the linker, whose stack is not what is measured */
-    memmove(stack, stack + 1, sizeof stack - 1);
     call_on_it(call);
     size_t lowest = 0;
     while (stack[lowest] == paint) lowest++;

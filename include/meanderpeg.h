@@ -94,32 +94,32 @@
  *
  * THE MACHINE (`c/measure` prints all of this from the archive)
  *
- * This is about the archive for x86-64 Linux. For firmware there are two others, which use neither vector registers
- * nor a red zone: `c/library --target aarch64` (little-endian, 64-bit pointers, aligned accesses alone, the
- * compiler's own calling convention) and `--target x86_64-firmware`. They ask for memcpy, memmove and memset, and
- * want at most 26,848 bytes of stack for meanderpeg_gather and 1,744 for any other call; docs/TARGETS.md has the
- * numbers of each.
+ * This is about the archive for x86-64 Linux. For firmware there are two others, which use neither vector registers nor
+ * a red zone: `c/library --target aarch64` (little-endian, 64-bit pointers, aligned accesses alone, the compiler's own
+ * calling convention) and `--target x86_64-firmware`. They ask for memcpy and memset, and want at most 26,848 bytes of
+ * stack for meanderpeg_gather and 1,744 for any other call; docs/TARGETS.md has the numbers of each.
  *
  *   - x86-64 code in ELF objects, position-independent, for 64-bit pointers and the System V calling convention. Where
  *     a compiler's own convention is another (UEFI and Windows targets), the declarations below ask for this one.
- *   - It asks for memmove and memset, by the same convention, and for nothing else; it has no data and no bss.
- *   - It does not use the red zone, by what its code does; it is not compiled so that it could not. Where interrupts
- *     come in on the same stack (firmware, kernels: what is compiled with -mno-red-zone), link the archive for firmware.
+ *   - It asks for memset, by the same convention, and for nothing else; it has no data and no bss.
+ *   - It uses the red zone: up to 64 bytes below the stack pointer hold values during a call. Where interrupts come
+ *     in on the same stack (firmware, kernels: what is compiled with -mno-red-zone), mask them during a call (in UEFI
+ *     RaiseTPL to TPL_HIGH_LEVEL), give their handlers a stack of their own (IST), or link the archive for firmware.
  *   - It uses xmm0 to xmm4, so SSE must be enabled, and an interrupt handler that uses them must save them; the
  *     archive for firmware does not. No x87, no AVX.
- *   - Bytes of stack that a call uses at most; what memmove and memset use comes on top:
+ *   - Bytes of stack that a call uses at most; what memset uses comes on top:
  *
- *       meanderpeg_gather                     26,944    meanderpeg_report                      1,280
+ *       meanderpeg_gather                     26,944    meanderpeg_report                      1,216
  *       meanderpeg_capsule_check                 128    meanderpeg_start_up                    1,216
- *       meanderpeg_capsule_item                  128    meanderpeg_repair                      1,280
- *       meanderpeg_capsule_image                 128    meanderpeg_begin                       2,432
- *       meanderpeg_capsule_vendor_code           128    meanderpeg_commit                      1,536
- *       meanderpeg_capsule_type_guid             256    meanderpeg_end                         1,408
- *       meanderpeg_capsule_image_index           256    meanderpeg_cancel                      1,344
- *       meanderpeg_capsule_hardware_instance     256    meanderpeg_accept                      1,472
+ *       meanderpeg_capsule_item                  128    meanderpeg_repair                      1,216
+ *       meanderpeg_capsule_image                 128    meanderpeg_begin                       2,368
+ *       meanderpeg_capsule_vendor_code           128    meanderpeg_commit                      1,408
+ *       meanderpeg_capsule_type_guid             192    meanderpeg_end                         1,408
+ *       meanderpeg_capsule_image_index           192    meanderpeg_cancel                      1,280
+ *       meanderpeg_capsule_hardware_instance     192    meanderpeg_accept                      1,408
  *       meanderpeg_soundness                   1,216    meanderpeg_select_previous             1,408
- *       meanderpeg_directory_write             1,280    meanderpeg_directory_type_guid           192
- *       meanderpeg_directory_check               128    meanderpeg_directory_numbers             192
+ *       meanderpeg_directory_write             1,216    meanderpeg_directory_type_guid            64
+ *       meanderpeg_directory_check                64    meanderpeg_directory_numbers              64
  *       meanderpeg_capsule_pack                  512    meanderpeg_capsule_packed_size           256
  */
 #ifndef MEANDERPEG_H
