@@ -1,18 +1,24 @@
--- `bank_words` meets its contract. Assumes nothing.
-use mathlib.Core.Path.{refl}
-use Prim.Native.Nat.{◌+◌}
-use lib.Dec.{leb}
-use Rattle.std.proofs.Common.{rules, tests}
-use Rattle.fields.specs.Number.{le}
-use Rattle.record_layout.specs.Layout.{bank_entry_at}
+-- `bank_words` meets its contract. The loop's invariant: the words of the banks below b are at most the limit. Assumes
+-- nothing.
+use mathlib.Core.Path.{sym}
+use native.Mathlib.Omega.{arith}
+use borrow.Author.Tests.{le-leb, lt-leb}
+use Rattle.record_layout.proofs.Below.{passed_none, passed_more, passed_stop, passed_all}
 use Rattle.record_layout.specs.Sized.{bank_words}
-use Rattle.record_layout.proofs.Every.{below_from_all}
 use Rattle.record_entry_rules.proofs.bank_words.Goals as goal
+
+pub loop-b-init : goal.loop-b-init
+loop-b-init c = passed_none
+
+pub returns-then-limit-bank_word : goal.returns-then-limit-bank_word
+unfolding bank_words
+returns-then-limit-bank_word c =
+    sym (passed_stop c.loop-b.invariant c.loop-b-test.true (rw (← c.bank_word.ensures) (lt-leb _ _ c.if-limit-bank_word.true)))
+
+pub loop-b-preserved : goal.loop-b-preserved
+loop-b-preserved c =
+    passed_more c.loop-b.invariant c.loop-b-test.true (rw (← c.bank_word.ensures) (le-leb _ _ c.if-limit-bank_word.false))
 
 pub returns : goal.returns
 unfolding bank_words
-returns c =
-    let a = c.args in
-    let r = a.c.bytes.now in
-    below_from_all (λ b. leb (le 4 r (bank_entry_at a.c.banks a.i b + a.from)) a.limit) a.c.banks _ _ c.all.result refl
-    c.all.ensures.ran (λ x b q k. search (rules, tests))
+returns c = sym (passed_all c.loop-b.invariant (omega arith))
