@@ -89,23 +89,23 @@
  *     write. It and its parts lie at any alignment: read numbers byte by byte or by memcpy, and cast no pointer.
  *   - Each image is authenticated before meanderpeg_commit, at the latest before meanderpeg_end.
  *   - In firmware and kernels: masking stops neither NMI nor machine check, so that where the archive uses the red zone
- *     their handlers need a stack of their own (IST); where it uses vector registers, a kernel saves them around a call.
+ *     their handlers need a stack of their own (IST); where it uses xmm0 and xmm1, a kernel saves them around a call.
  *
  *
  * THE MACHINE (`c/measure` prints all of this from the archive)
  *
  * This is about the archive for x86-64 Linux. For firmware there are two others, which use neither vector registers nor
  * a red zone: `c/library --target aarch64` (little-endian, 64-bit pointers, aligned accesses alone, the compiler's own
- * calling convention) and `--target x86_64-firmware`. They ask for memcpy and memset, and want at most 26,848 bytes of
+ * calling convention) and `--target x86_64-firmware`. They ask for memcpy and memset, and want at most 26,832 bytes of
  * stack for meanderpeg_gather and 1,744 for any other call; docs/TARGETS.md has the numbers of each.
  *
  *   - x86-64 code in ELF objects, position-independent, for 64-bit pointers and the System V calling convention. Where
  *     a compiler's own convention is another (UEFI and Windows targets), the declarations below ask for this one.
  *   - It asks for memset, by the same convention, and for nothing else; it has no data and no bss.
- *   - It uses the red zone: up to 64 bytes below the stack pointer hold values during a call. Where interrupts come
+ *   - It uses the red zone: up to 32 bytes below the stack pointer hold values during a call. Where interrupts come
  *     in on the same stack (firmware, kernels: what is compiled with -mno-red-zone), mask them during a call (in UEFI
  *     RaiseTPL to TPL_HIGH_LEVEL), give their handlers a stack of their own (IST), or link the archive for firmware.
- *   - It uses xmm0 to xmm4, so SSE must be enabled, and an interrupt handler that uses them must save them; the
+ *   - It uses xmm0 and xmm1, so SSE must be enabled, and an interrupt handler that uses them must save them; the
  *     archive for firmware does not. No x87, no AVX.
  *   - Bytes of stack that a call uses at most; what memset uses comes on top:
  *

@@ -19,7 +19,8 @@ fn copy_block(w: &mut [u8], base: u64, d: u64, q: usize) -> usize
     let Some(block) = block_at(w, base, d) else {
         return 0;
     };
-    let n = block.len();
+    // `len` would cut below 0, and take 16 bytes of stack more on firmware
+    let n = block.end - block.start;
     w.copy_within(block, q);
     n
 }

@@ -24,6 +24,15 @@ pub struct Listed {
     pub total: u64,
 }
 
+// What the rest of the list gave, as it is. Number by number: what `run` and `jump` hand on whole is copied by memcpy
+// on AArch64.
+fn handed_on(read: Result<Listed, Refusal>) -> Result<Listed, Refusal>
+    ensures { result ≡ read }
+{
+    let Listed { count, total } = read?;
+    Ok(Listed { count, total })
+}
+
 // Reads on with the descriptor at the offset `at`: a run of data descriptors, up to a jump or the end.
 // `left` descriptors may still be read, so 256 - left addresses stand in `ds` already. It is no loop, since the
 // customer names this form: the reader of runs calls that of jumps, and back, and the descriptors still allowed fall.
@@ -51,7 +60,7 @@ fn run(
     let size = read64(w, at);
     let address = read64(w, at + 8);
     if size == 0 {
-        return jump(w, base, address, left - 1, total, ds);
+        return handed_on(jump(w, base, address, left - 1, total, ds));
     }
     if !block_fits(base, w.len(), address, size) {
         return Err(Refusal::BlockOutside);
@@ -59,7 +68,7 @@ fn run(
     if TOTAL_LIMIT - total < size {
         return Err(Refusal::TotalLength);
     }
-    run(w, base, at + 16, left - 1, total + size, ds)
+    handed_on(run(w, base, at + 16, left - 1, total + size, ds))
 }
 
 // A descriptor of Length 0: the end, or the next run, which begins at the address.
@@ -86,7 +95,7 @@ fn jump(
     if address < base {
         return Err(Refusal::DescriptorAddress);
     }
-    run(w, base, (address - base) as usize, left, total, ds)
+    handed_on(run(w, base, (address - base) as usize, left, total, ds))
 }
 
 // Reads the list whose first descriptor stands at `first`. Where it is whole, the addresses of its descriptors, in

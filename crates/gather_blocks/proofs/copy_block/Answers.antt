@@ -13,6 +13,6 @@ pub returns : goal.returns
 returns c =
     let a = c.args in
     let b = c.in-Some.ensures in (
-      omega (arith, c.len-n.ensures.value, b.ends),
+      omega (arith, b.ends),
       c.copy_within.ensures.after ∙ block_put a.w.now a.base a.d a.q c.in-Some.block c.requires.readable b,
     )

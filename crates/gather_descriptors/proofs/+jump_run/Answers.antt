@@ -34,7 +34,7 @@ jump-returns t c =
     let a = c.args in
     let e : a.base + (a.address - a.base) ≡ a.address = omega arith in
     jumped_on a.w.now a.base a.address a.total a.left (256 - a.left) a.ds.now _ _ c.if-address-eq0.false
-    (rw e at c.run.ensures)
+    (rw c.handed_on.ensures (rw e at c.run.ensures))
 
 pub run-returns-then-left-eq0 : goal.run-returns-then-left-eq0
 run-returns-then-left-eq0 t c =
@@ -80,7 +80,7 @@ run-returns-then-size-eq0 t c =
     (sym c.descriptor_fits.ensures ∙ c.if-not-descriptor_fits.false) c.read64-size.ensures c.read64-address.ensures c.requires.0 c.requires.3
     (jump_or_end c.read64-address.result a.total (λ next. walk (a.left - 1) a.w.now a.base next a.total))
     (rw (eq-eqb _ _ c.if-size-eq0.true))
-    c.jump.ensures
+    (rw c.handed_on.ensures c.jump.ensures)
 
 pub run-returns-then-not-block_fits : goal.run-returns-then-not-block_fits
 unfolding ScratchHolds data_block
@@ -124,4 +124,4 @@ run-returns t c =
       le-leb (a.total + c.read64-size.result) total_limit (omega arith),
       n,
     ))
-    c.run.ensures
+    (rw c.handed_on-2.ensures c.run.ensures)
