@@ -4,11 +4,26 @@
 // Each clause asks the verdict twice: in `replied_by`, and in what it gives, whose branch for a refusal is dead there.
 #![tactic(auto)]
 
-ghost use Rattle.std.specs.Prelude.{◌≡◌};
-ghost use Rattle.capsule_check.specs.Verdict.{item_verdict};
+ghost use Rattle.std.specs.Prelude.{◌≡◌, IfOk};
+ghost use Rattle.capsule_check.specs.Verdict.{verdict_of, item_verdict};
 ghost use Rattle.capsule_check.specs.Item.{located};
 ghost use Rattle.capsule_values.specs.Shown.{type_guid_of, image_index_of, hardware_instance_of};
 ghost use Rattle.c_reply.specs.Replied.{replied_by};
+
+use capsule_values::Values;
+use refusals::Refusal;
+
+// Sets all that is shown of item k; or gives the refusal. The three functions below have no `Result` of the values, whose
+// room a refusal clears: by memset on AArch64.
+fn set_values(s: &[u8], k: usize, values: &mut Values) -> Result<(), Refusal>
+    ensures judged { verdict_of result ≡ item_verdict s.now k }
+    ensures shown { IfOk result (λ x. (values.new.guid ≡ type_guid_of s.now (located s.now k))
+        × (values.new.index ≡ image_index_of s.now (located s.now k))
+        × (values.new.instance ≡ hardware_instance_of s.now (located s.now k))) }
+{
+    *values = capsule_values::values_of(s, k)?;
+    Ok(())
+}
 
 // The type GUID of item k, zeros of a driver (C21).
 #[tactic(auto, unfolding(refusal_order::specs::Decide::reply))]
@@ -17,8 +32,9 @@ pub extern "C" fn meanderpeg_capsule_type_guid(s: &[u8], k: usize, guid: &mut [u
     ensures { (result, guid.new) ≡ replied_by (item_verdict s.now k)
         (type_guid_of s.now (located s.now k)) guid.old }
 {
-    match capsule_values::values_of(s, k) {
-        Ok(values) => {
+    let mut values = Values::default();
+    match set_values(s, k, &mut values) {
+        Ok(()) => {
             let shown = values.guid;
             *guid = shown;
             0
@@ -34,8 +50,9 @@ pub extern "C" fn meanderpeg_capsule_image_index(s: &[u8], k: usize, index: &mut
     ensures { (result, index.new) ≡ replied_by (item_verdict s.now k)
         (image_index_of s.now (located s.now k)) index.old }
 {
-    match capsule_values::values_of(s, k) {
-        Ok(values) => {
+    let mut values = Values::default();
+    match set_values(s, k, &mut values) {
+        Ok(()) => {
             *index = values.index;
             0
         }
@@ -54,8 +71,9 @@ pub extern "C" fn meanderpeg_capsule_hardware_instance(
     ensures { (result, instance.new) ≡ replied_by (item_verdict s.now k)
         (hardware_instance_of s.now (located s.now k)) instance.old }
 {
-    match capsule_values::values_of(s, k) {
-        Ok(values) => {
+    let mut values = Values::default();
+    match set_values(s, k, &mut values) {
+        Ok(()) => {
             *instance = values.instance;
             0
         }

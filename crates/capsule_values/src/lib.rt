@@ -13,7 +13,7 @@ use capsule_check::{Item, locate};
 use refusals::Refusal;
 
 // All that is shown of an item.
-#[derive(Clone, Copy, Debug, PartialEq, Eq)]
+#[derive(Clone, Copy, Debug, Default, PartialEq, Eq)]
 pub struct Values {
     pub guid: [u8; 16],
     pub index: u8,
