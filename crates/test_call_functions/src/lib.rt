@@ -21,10 +21,8 @@ const FILLER: u32 = 7;
 
 // How many numbers past the pairs are no longer what they were.
 fn altered(out: &[u32], pairs: usize) -> u64 {
-    out.iter()
-        .skip(pairs % 4294967296 * 2)
-        .filter(|n| **n != FILLER)
-        .count() as u64
+    let from = (pairs % 4294967296 * 2).min(out.len());
+    out[from..].iter().filter(|n| **n != FILLER).count() as u64
 }
 
 fn low(n: u64) -> u32 {

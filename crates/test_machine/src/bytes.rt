@@ -1,4 +1,5 @@
 // Bytes of the memory: numbers in it, runs of it, and digests of them. What lies outside reads as 0 and is not written.
+use fields::read32;
 
 // The byte at `at`.
 pub fn byte(s: &[u8], at: usize) -> u8 {
@@ -66,11 +67,19 @@ pub fn part(m: &[u8], at: usize, count: usize) -> &[u8] {
     &m[at..at + count]
 }
 
+// The little-endian number of a chunk of four bytes, or of the last, shorter one.
+fn number(s: &[u8]) -> u64 {
+    if s.len() == 4 {
+        return u64::from(read32(s, 0));
+    }
+    load(s, 0, s.len())
+}
+
 // A digest with bytes more: their count, then numbers of four bytes.
 pub fn digest_bytes(s: &[u8], before: u64) -> u64 {
     let mut d = digest(before, s.len() as u64);
     for four in s.chunks(4) {
-        d = digest(d, load(four, 0, four.len()));
+        d = digest(d, number(four));
     }
     d
 }
