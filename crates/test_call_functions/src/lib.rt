@@ -22,7 +22,9 @@ const FILLER: u32 = 7;
 // How many numbers past the pairs are no longer what they were.
 fn altered(out: &[u32], pairs: usize) -> u64 {
     let from = (pairs % 4294967296 * 2).min(out.len());
-    out[from..].iter().filter(|n| **n != FILLER).count() as u64
+    out[from..].iter().fold(0, |count: u64, n| {
+        count.wrapping_add(u64::from(*n != FILLER))
+    })
 }
 
 fn low(n: u64) -> u32 {

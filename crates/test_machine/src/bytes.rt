@@ -67,19 +67,15 @@ pub fn part(m: &[u8], at: usize, count: usize) -> &[u8] {
     &m[at..at + count]
 }
 
-// The little-endian number of a chunk of four bytes, or of the last, shorter one.
-fn number(s: &[u8]) -> u64 {
-    if s.len() == 4 {
-        return u64::from(read32(s, 0));
-    }
-    load(s, 0, s.len())
-}
-
-// A digest with bytes more: their count, then numbers of four bytes.
+// A digest with bytes more: their count, then numbers of four bytes, the last of what is left.
 pub fn digest_bytes(s: &[u8], before: u64) -> u64 {
     let mut d = digest(before, s.len() as u64);
-    for four in s.chunks(4) {
-        d = digest(d, number(four));
+    for four in s.chunks_exact(4) {
+        d = digest(d, u64::from(read32(four, 0)));
     }
-    d
+    let rest = s.len() % 4;
+    if rest == 0 {
+        return d;
+    }
+    digest(d, load(s, s.len() - rest, rest))
 }
