@@ -102,7 +102,7 @@
  *   - x86-64 code in ELF objects, position-independent, for 64-bit pointers and the System V calling convention. Where
  *     a compiler's own convention is another (UEFI and Windows targets), the declarations below ask for this one.
  *   - It asks for memset, by the same convention, and for nothing else; it has no data and no bss.
- *   - It uses the red zone: up to 32 bytes below the stack pointer hold values during a call. Where interrupts come
+ *   - It uses the red zone: up to 56 bytes below the stack pointer hold values during a call. Where interrupts come
  *     in on the same stack (firmware, kernels: what is compiled with -mno-red-zone), mask them during a call (in UEFI
  *     RaiseTPL to TPL_HIGH_LEVEL), give their handlers a stack of their own (IST), or link the archive for firmware.
  *   - It uses xmm0 and xmm1, so SSE must be enabled, and an interrupt handler that uses them must save them; the
