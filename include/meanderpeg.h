@@ -96,8 +96,8 @@
  *
  * This is about the archive for x86-64 Linux. For firmware there are two others, which use neither vector registers nor
  * a red zone: `c/library --target aarch64` (little-endian, 64-bit pointers, aligned accesses alone, the compiler's own
- * calling convention) and `--target x86_64-firmware`. They ask for memcpy and memset, and want at most 26,832 bytes of
- * stack for meanderpeg_gather and 1,744 for any other call; docs/TARGETS.md has the numbers of each.
+ * calling convention) and `--target x86_64-firmware`. They ask for memset, the first for memcpy too, and want at most
+ * 26,832 bytes of stack for meanderpeg_gather and 1,744 for any other call; docs/TARGETS.md has the numbers of each.
  *
  *   - x86-64 code in ELF objects, position-independent, for 64-bit pointers and the System V calling convention. Where
  *     a compiler's own convention is another (UEFI and Windows targets), the declarations below ask for this one.

@@ -13,8 +13,8 @@ ghost use Rattle.c_reply.specs.Replied.{replied_by};
 use capsule_values::Values;
 use refusals::Refusal;
 
-// Sets all that is shown of item k; or gives the refusal. The three functions below have no `Result` of the values, whose
-// room a refusal clears: by memset on AArch64.
+// Sets all that is shown of item k; or gives the refusal. The three functions below have no `Result` of the values:
+// with a refusal its room would be cleared, by memset on AArch64.
 fn set_values(s: &[u8], k: usize, values: &mut Values) -> Result<(), Refusal>
     ensures judged { verdict_of result ≡ item_verdict s.now k }
     ensures shown { IfOk result (λ x. (values.new.guid ≡ type_guid_of s.now (located s.now k))
